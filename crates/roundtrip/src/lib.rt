@@ -1,0 +1,1 @@
+// This crate is its specs/: demand 3, stated and proved.
