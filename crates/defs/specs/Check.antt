@@ -5,7 +5,7 @@ use mathlib.Core.List.{List, [], _∷_}
 use lib.ListN.{length}
 use lib.Dec.{eqb, leb, ltb}
 use Rattle.laws.specs.Tools.{pick, allOf, allBelow, someBelow, sumBelow, all, same, repeats}
-use Rattle.defs.specs.Table.{word, statements, references, entries, childRefs, maxStatements, maxReferences, maxEntries, maxChildRefs, theorem, qed, hypsFrom, entriesFrom, childrenFrom, wholeLength, kind, labelStart, labelLength, hypStart, hypCount, label, hyps, hypRef, entryStmt, childStart, childCount, children}
+use Rattle.defs.specs.Table.{word, headerSize, statements, references, entries, childRefs, maxStatements, maxReferences, maxEntries, maxChildRefs, maxLabelLength, theorem, qed, hypsFrom, entriesFrom, childrenFrom, wholeLength, statementWords, hypWords, entryWords, childWords, kindIn, labelStartIn, labelLengthIn, hypStartIn, hypCountIn, labelIn, hypsIn, entryStmtIn, childStartIn, childCountIn, childrenIn, kind}
 
 -- a refusal number with its test; true means: refuse
 pub record Test : Type 0 where
@@ -29,12 +29,12 @@ orElse (suc k) next = suc k
 -- the header's rules: at least 10 words, counts within their limits, the offsets and the length as they must be
 unfoldable pub headerRules : List ℕ → List Bool
 headerRules w =
-    leb 10 (length w)
+    leb headerSize (length w)
     ∷ leb (statements w) maxStatements
     ∷ leb (references w) maxReferences
     ∷ leb (entries w) maxEntries
     ∷ leb (childRefs w) maxChildRefs
-    ∷ eqb (word w 4) 10
+    ∷ eqb (word w 4) headerSize
     ∷ eqb (word w 5) (hypsFrom w)
     ∷ eqb (word w 6) (entriesFrom w)
     ∷ eqb (word w 7) (childrenFrom w)
@@ -46,77 +46,87 @@ unfoldable pub bad1 : List ℕ → Bool
 bad1 w = not (allOf (headerRules w))
 
 -- the line of statement k: kind 0, 1 or 2; label start a running sum, label length 1 to 255; hypothesis start a running sum,
--- hypothesis count 0 for kinds 1 and 2; neither label nor hypotheses past their place's end
-unfoldable pub statementRules : (w b : List ℕ) (k : ℕ) → List Bool
-statementRules w b k =
-    leb (kind w k) 2
-    ∷ eqb (labelStart w k) (sumBelow (labelLength w) k)
-    ∷ leb 1 (labelLength w k)
-    ∷ leb (labelLength w k) 255
-    ∷ eqb (hypStart w k) (sumBelow (hypCount w) k)
-    ∷ (eqb (kind w k) 0 || eqb (hypCount w k) 0)
-    ∷ leb (labelStart w k + labelLength w k) (length b)
-    ∷ leb (hypStart w k + hypCount w k) (references w)
+-- hypothesis count 0 for kinds 1 and 2; neither label nor hypotheses past their place's end (h references, so many label bytes)
+unfoldable pub statementRules : (ss : List ℕ) (h bytes k : ℕ) → List Bool
+statementRules ss h bytes k =
+    leb (kindIn ss k) 2
+    ∷ eqb (labelStartIn ss k) (sumBelow (labelLengthIn ss) k)
+    ∷ leb 1 (labelLengthIn ss k)
+    ∷ leb (labelLengthIn ss k) maxLabelLength
+    ∷ eqb (hypStartIn ss k) (sumBelow (hypCountIn ss) k)
+    ∷ (eqb (kindIn ss k) 0 || eqb (hypCountIn ss k) 0)
+    ∷ leb (labelStartIn ss k + labelLengthIn ss k) bytes
+    ∷ leb (hypStartIn ss k + hypCountIn ss k) h
     ∷ []
 
--- all statements keep their line; labels and hypotheses fill their places exactly
-unfoldable pub statementsRules : List ℕ → List ℕ → List Bool
-statementsRules w b =
-    allBelow (λ k. allOf (statementRules w b k)) (statements w)
-    ∷ eqb (sumBelow (labelLength w) (statements w)) (length b)
-    ∷ eqb (sumBelow (hypCount w) (statements w)) (references w)
+-- all s statements keep their line; labels and hypotheses fill their places exactly
+unfoldable pub statementsRules : (ss : List ℕ) (s h bytes : ℕ) → List Bool
+statementsRules ss s h bytes =
+    allBelow (λ k. allOf (statementRules ss h bytes k)) s
+    ∷ eqb (sumBelow (labelLengthIn ss) s) bytes
+    ∷ eqb (sumBelow (hypCountIn ss) s) h
     ∷ []
 
 -- 2: a statement record breaks its line, or labels or hypotheses are not filled exactly
 unfoldable pub bad2 : List ℕ → List ℕ → Bool
-bad2 w b = not (allOf (statementsRules w b))
+bad2 w b = not (allOf (statementsRules (statementWords w) (statements w) (references w) (length b)))
 
 -- letter, digit, `.`, `-`, `_`
 unfoldable pub labelByte : ℕ → Bool
 labelByte x =
     (leb 65 x && leb x 90) || (leb 97 x && leb x 122) || (leb 48 x && leb x 57) || eqb x 46 || eqb x 45 || eqb x 95
 
--- statement k has the label of an earlier statement
-unfoldable pub labelAgain : List ℕ → List ℕ → ℕ → Bool
-labelAgain w b k = someBelow (λ j. same (label w b j) (label w b k)) k
-
 -- the label of statement k has another byte
-unfoldable pub labelWrong : List ℕ → List ℕ → ℕ → Bool
-labelWrong w b k = not (all labelByte (label w b k))
+unfoldable pub labelWrong : (ss b : List ℕ) → ℕ → Bool
+labelWrong ss b k = not (all labelByte (labelIn ss b k))
+
+-- statement k has the label of an earlier statement
+unfoldable pub labelAgain : (ss b : List ℕ) → ℕ → Bool
+labelAgain ss b k = someBelow (λ j. same (labelIn ss b j) (labelIn ss b k)) k
 
 -- 3: another label byte, or two equal labels
 unfoldable pub bad3 : List ℕ → List ℕ → Bool
-bad3 w b = someBelow (labelWrong w b) (statements w) || someBelow (labelAgain w b) (statements w)
+bad3 w b = someBelow (labelWrong (statementWords w) b) (statements w) || someBelow (labelAgain (statementWords w) b) (statements w)
 
--- a hypothesis reference names a statement of kind 1 or 2
-unfoldable pub referenceOk : List ℕ → ℕ → Bool
-referenceOk w i = ltb (hypRef w i) (statements w) && not (eqb (kind w (hypRef w i)) 0)
+-- hypothesis reference i names one of s statements, of kind 1 or 2
+unfoldable pub referenceOk : (ss hs : List ℕ) (s i : ℕ) → Bool
+referenceOk ss hs s i = ltb (word hs i) s && not (eqb (kindIn ss (word hs i)) 0)
+
+-- the list of statement k has a hypothesis twice
+unfoldable pub hypsRepeat : (ss hs : List ℕ) → ℕ → Bool
+hypsRepeat ss hs k = repeats (hypsIn ss hs k)
 
 -- 4: a hypothesis reference out of range, of kind 0, or repeated in its list
 unfoldable pub bad4 : List ℕ → Bool
-bad4 w = not (allBelow (referenceOk w) (references w)) || someBelow (λ k. repeats (hyps w k)) (statements w)
+bad4 w =
+    not (allBelow (referenceOk (statementWords w) (hypWords w) (statements w)) (references w))
+    || someBelow (hypsRepeat (statementWords w) (hypWords w)) (statements w)
 
--- the line of entry e: a statement; child start a running sum; as many children as the statement has hypotheses;
--- children not past their place's end
-unfoldable pub entryRules : List ℕ → ℕ → List Bool
-entryRules w e =
-    ltb (entryStmt w e) (statements w)
-    ∷ eqb (childStart w e) (sumBelow (childCount w) e)
-    ∷ eqb (childCount w e) (hypCount w (entryStmt w e))
-    ∷ leb (childStart w e + childCount w e) (childRefs w)
+-- the line of entry e: one of s statements; child start a running sum; as many children as the statement has hypotheses;
+-- children not past the end of their place, c references
+unfoldable pub entryRules : (ss es : List ℕ) (s c e : ℕ) → List Bool
+entryRules ss es s c e =
+    ltb (entryStmtIn es e) s
+    ∷ eqb (childStartIn es e) (sumBelow (childCountIn es) e)
+    ∷ eqb (childCountIn es e) (hypCountIn ss (entryStmtIn es e))
+    ∷ leb (childStartIn es e + childCountIn es e) c
     ∷ []
 
--- all entries keep their line; children fill c exactly
-unfoldable pub entriesRules : List ℕ → List Bool
-entriesRules w = allBelow (λ e. allOf (entryRules w e)) (entries w) ∷ eqb (sumBelow (childCount w) (entries w)) (childRefs w) ∷ []
+-- all n entries keep their line; children fill c exactly
+unfoldable pub entriesRules : (ss es : List ℕ) (s n c : ℕ) → List Bool
+entriesRules ss es s n c = allBelow (λ e. allOf (entryRules ss es s c e)) n ∷ eqb (sumBelow (childCountIn es) n) c ∷ []
 
 -- 5: an entry record breaks its line, or c is not filled exactly
 unfoldable pub bad5 : List ℕ → Bool
-bad5 w = not (allOf (entriesRules w))
+bad5 w = not (allOf (entriesRules (statementWords w) (entryWords w) (statements w) (entries w) (childRefs w)))
+
+-- every child of entry e is below it
+unfoldable pub childrenBelow : (es cs : List ℕ) → ℕ → Bool
+childrenBelow es cs e = all (λ c. ltb c e) (childrenIn es cs e)
 
 -- 6: a child not below its parent
 unfoldable pub bad6 : List ℕ → Bool
-bad6 w = not (allBelow (λ e. all (λ c. ltb c e) (children w e)) (entries w))
+bad6 w = not (allBelow (childrenBelow (entryWords w) (childWords w)) (entries w))
 
 -- the theorem is a statement, of kind 0; QED is an entry
 unfoldable pub goalRules : List ℕ → List Bool

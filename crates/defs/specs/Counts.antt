@@ -1,21 +1,22 @@
 -- Parents and distances of document 01, `Counts, distances, lists`.
 use mathlib.Core.Path.{_≡_}
 use mathlib.Core.Logic.{_⊎_}
-use Prim.Native.Nat.{ℕ, zero, suc, _<_, min}
+use Prim.Native.Nat.{ℕ, zero, suc, _+_, _≤_, _<_, min}
 use mathlib.Core.Bool.{Bool}
 use mathlib.Core.List.{List, [], _∷_, map}
-use lib.ListN.{getD, set, replicate}
+use lib.ListN.{length, getD, set, replicate}
 use lib.Dec.{T, ltb}
-use Rattle.laws.specs.Tools.{range, sumBelow, count, member}
-use Rattle.defs.specs.Graph.{Graph}
+use Rattle.laws.specs.Tools.{pick, range, sumBelow, count, member}
+use Rattle.defs.specs.Table.{entries, qed}
+use Rattle.defs.specs.Graph.{Graph, graphOf}
 
 -- parents of an entry: the child references to it over ALL n entries, repeats and unreachable parents included
-unfoldable pub parentsOf : Graph → ℕ → ℕ → ℕ
-parentsOf g n e = sumBelow (λ p. count e (g .kids p)) n
+unfoldable pub parentCount : Graph → ℕ → ℕ → ℕ
+parentCount g n e = sumBelow (λ p. count e (g .kids p)) n
 
 -- of every entry
 unfoldable pub parents : Graph → ℕ → List ℕ
-parents g n = map (λ e. parentsOf g n e) (range 0 n)
+parents g n = map (λ e. parentCount g n e) (range 0 n)
 
 -- the distance of what cannot be reached
 abbrev pub unreached : ℕ
@@ -35,8 +36,20 @@ descend g (suc e) ds = descend g e (lower (min unreached (suc (getD ds e unreach
 unfoldable pub distances : Graph → ℕ → ℕ → List ℕ
 distances g n q = descend g n (set (replicate n unreached) q 0)
 
+-- the parents and the distances of a table's entries
+unfoldable pub parentsOf : List ℕ → List ℕ
+parentsOf w = parents (graphOf w) (entries w)
+
+unfoldable pub distancesOf : List ℕ → List ℕ
+distancesOf w = distances (graphOf w) (entries w) (qed w)
+
+-- entry e can be reached from QED entry q
 unfoldable pub reachable : Graph → ℕ → ℕ → ℕ → Bool
 reachable g n q e = ltb (getD (distances g n q) e unreached) unreached
+
+-- 1 plus the child counts of all entries that can be reached: the number of steps that demand 3 asks of the packed list
+unfoldable pub sharedSize : Graph → ℕ → ℕ → ℕ
+sharedSize g n q = 1 + sumBelow (λ e. pick (reachable g n q e) (length (g .kids e)) 0) n
 
 -- ---- what the pass computes, said without it
 
@@ -52,5 +65,5 @@ IsDistance g q e d = (Way g d q e × ((k : ℕ) → k < d → ¬ Way g k q e)) �
 -- the law to be proved: for children below their parents, and at most 65535 entries, the pass gives the distance
 unfoldable pub DistanceLaw : Type 0
 DistanceLaw =
-    (g : Graph) (n q e : ℕ) → ((p c : ℕ) → p < n → T (member c (g .kids p)) → c < p) → n < 65536 → q < n → e < n
+    (g : Graph) (n q e : ℕ) → ((p c : ℕ) → p < n → T (member c (g .kids p)) → c < p) → n ≤ unreached → q < n → e < n
     → IsDistance g q e (getD (distances g n q) e unreached)

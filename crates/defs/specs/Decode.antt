@@ -6,11 +6,11 @@ use mathlib.Core.List.{List, [], _∷_, _++_}
 use lib.ListN.{length, getD}
 use lib.Dec.{eqb, leb, ltb}
 use Rattle.laws.specs.Tools.{pick, any, member, repeats}
-use Rattle.defs.specs.Table.{statements, mandatory}
+use Rattle.defs.specs.Table.{maxWord, statements, mandatory}
 use Rattle.defs.specs.Check.{_when_, firstOf, orElse, tableRefusal}
 use Rattle.defs.specs.Steps.{Step, flat}
 use Rattle.defs.specs.Refusals.{bad10, bad15}
-use Rattle.defs.specs.Outcome.{Outcome, lengthAfter, outAfter}
+use Rattle.defs.specs.Outcome.{Outcome, oneOutput}
 
 -- 16: a list item not below s, in the theorem's list, or repeated
 unfoldable pub badLabels : List ℕ → List ℕ → Bool
@@ -42,11 +42,11 @@ markLast m [] = []
 markLast m (t ∷ []) = record { ref = t .ref; mark = m; stmt = t .stmt; parent = t .parent; index = t .index } ∷ []
 markLast m (t ∷ u ∷ ts) = t ∷ markLast m (u ∷ ts)
 
--- `A` to `T` finish a code; a number naming nothing yet is refused
+-- `A` to `T` finish a code; a number naming nothing yet is refused (one past what a word holds names nothing)
 unfoldable pub finishCode : List ℕ → List ℕ → Reading → ℕ → Option Reading
 finishCode thm labels d x =
     let v : ℕ = d .pending * 20 + (x - 65) in
-    pick (ltb v (length thm + length labels + d .given))
+    pick (ltb v (length thm + length labels + d .given) && leb v maxWord)
     (some (record { pending = 0; finished = true; given = d .given; out = d .out ++ stepNamed thm labels v ∷ [] }))
     none
 
@@ -54,10 +54,10 @@ finishCode thm labels d x =
 unfoldable pub leadCode : Reading → ℕ → Option Reading
 leadCode d x = some (record { pending = d .pending * 5 + (x - 84); finished = false; given = d .given; out = d .out })
 
--- `Z` marks the step just finished; not straight after a finished code it is refused
+-- `Z` marks the step just finished; not straight after a finished code it is refused, nor is there a mark past what a word holds
 unfoldable pub markStep : Reading → Option Reading
 markStep d =
-    pick (d .finished)
+    pick (d .finished && ltb (d .given) maxWord)
     (some (record { pending = 0; finished = false; given = d .given + 1; out = markLast (d .given + 1) (d .out) }))
     none
 
@@ -91,16 +91,14 @@ unfoldable pub stepsOr : Option (List Step) → List Step
 stepsOr none = []
 stepsOr (some ts) = ts
 
-unfoldable pub decodeNumber : (w b labels letters out : List ℕ) → ℕ
-decodeNumber w b labels letters out =
+unfoldable pub decodeNumber : (w b list letters out : List ℕ) → ℕ
+decodeNumber w b list letters out =
     orElse (tableRefusal w b) (firstOf (10 when bad10 w
-    ∷ 16 when badLabels w labels
-    ∷ 17 when (refusedSteps (decoded w labels letters))
-    ∷ 15 when (bad15 (flat (stepsOr (decoded w labels letters))) out)
+    ∷ 16 when badLabels w list
+    ∷ 17 when refusedSteps (decoded w list letters)
+    ∷ 15 when bad15 (flat (stepsOr (decoded w list letters))) out
     ∷ []))
 
-unfoldable pub decodeOutcome : (w b labels letters out : List ℕ) → Outcome
-decodeOutcome w b labels letters out =
-    let k : ℕ = decodeNumber w b labels letters out in
-    let result : List ℕ = flat (stepsOr (decoded w labels letters)) in
-    record { number = k; lengths = lengthAfter k result ∷ []; outs = outAfter k result out ∷ []; works = [] }
+unfoldable pub decodeOutcome : (w b list letters out : List ℕ) → Outcome
+decodeOutcome w b list letters out =
+    oneOutput (decodeNumber w b list letters out) (flat (stepsOr (decoded w list letters))) [] out

@@ -169,7 +169,7 @@ module _ (g : Graph) (n q : ℕ) (falls : (p c : ℕ) → p < n → T (member c 
   unfolding distances
   done = turns n _ (le-refl n) begin
 
-  pub is-distance : n < 65536 → (x : ℕ) → x < n → IsDistance g q x (getD (distances g n q) x unreached)
+  pub is-distance : n ≤ unreached → (x : ℕ) → x < n → IsDistance g q x (getD (distances g n q) x unreached)
   unfolding IsDistance
   is-distance hn x hx =
       elim (decLt (getD (distances g n q) x unreached) unreached) [

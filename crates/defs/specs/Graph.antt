@@ -1,22 +1,20 @@
 -- Entries as a graph: what a walk needs to know of a table, or of the entries that a replay built.
-use Prim.Native.Nat.{ℕ, zero, suc, _+_, _*_}
+use Prim.Native.Nat.{ℕ, zero, suc}
 use mathlib.Core.List.{List, [], _∷_}
-use lib.ListN.{getD}
-use Rattle.laws.specs.Tools.{part}
-use Rattle.defs.specs.Table.{entryStmt, entrySize, children}
+use Rattle.defs.specs.Table.{entryWords, childWords, entryStmtIn, childrenIn}
 
 -- each entry's statement and its children in order
 pub record Graph : Type 0 where
   pub stmt : ℕ → ℕ
   pub kids : ℕ → List ℕ
 
+-- the entries that stand in an entry section and its child section: a table's, or as replay writes them
+unfoldable pub graphIn : (es cs : List ℕ) → Graph
+graphIn es cs = record { stmt = entryStmtIn es; kids = childrenIn es cs }
+
 -- a table's entries
 unfoldable pub graphOf : List ℕ → Graph
-graphOf w = record { stmt = entryStmt w; kids = children w }
-
--- the entries that stand in an entry slice (three words each) and its child slice, as replay writes them
-unfoldable pub graphIn : List ℕ → List ℕ → Graph
-graphIn es cs = record { stmt = λ e. getD es (entrySize * e) 0; kids = λ e. part (getD es (entrySize * e + 1) 0) (getD es (entrySize * e + 2) 0) cs }
+graphOf w = graphIn (entryWords w) (childWords w)
 
 -- a proof tree: a statement applied to the trees of its hypotheses, in order (antt has no lists of the type being declared)
 mutual

@@ -11,7 +11,7 @@ use lib.Dec.{nltb→le, eqb, leb, ltb}
 use Rattle.laws.specs.Tools.{range, any, keep, member, total, join, count, firsts}
 use Rattle.defs.specs.Table.{kind, labelLength}
 use Rattle.defs.specs.Steps.{Step}
-use Rattle.defs.specs.Order.{used, listed, costOf, useOf, byUse, byIndex, blocksFrom, blocks, best, choose, Filling, chosen, emit, fillWithin, fillBlock, fillBlocks, labelList, Counter, startAt, cutoffs, floatings}
+use Rattle.defs.specs.Order.{used, listed, costOf, useOf, byUse, byIndex, blocksFrom, blocks, best, restReaches, choose, Filling, chosen, emit, fillWithin, fillBlock, fillBlocks, labelList, Counter, startAt, cutoffs, floatings}
 use Rattle.defs.specs.ChoiceLaws.{choose-reaches}
 use Rattle.laws.specs.Lists.{boole, T-of, of-T, clash, eqb-yes, eqb-no, leb-yes, map-snoc}
 use Rattle.laws.specs.Sums.{bit, count-append, count-all, member-count, count-member, count-no, count-self, head-in}
@@ -30,7 +30,7 @@ chosen-count block cost x (suc i) room h =
     ap (count x) (take-suc block i 0 h) ∙ count-append x (take i block) (at i ∷ []) in
     let without = chosen-count block cost x i room (omega arith) in
     let with-it = chosen-count block cost x i (room - cost i) (omega arith) in
-    boole (eqb (best cost (suc i) room) (best cost i room))
+    boole (restReaches cost i room)
     (λ e. rw e (omega arith))
     (λ e. rw (e, map-snoc at (choose cost i (room - cost i)) i, count-append x (map at (choose cost i (room - cost i))) (at i ∷ [])) (omega arith))
 

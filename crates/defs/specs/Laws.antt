@@ -14,7 +14,7 @@ use Rattle.laws.specs.Lists.{boole, clash}
 use Rattle.laws.specs.Tools.{pick, total, all, allOf, allBelow, someBelow, sumBelow, firstFrom}
 use Rattle.defs.specs.Check.{firstOf, tableRefusal, bad1, bad2, bad3, bad4, bad5, bad6, bad7}
 use Rattle.defs.specs.Graph.{Graph, Tree, Trees, moreTrees, node, treesBy, treeWithin}
-use Rattle.defs.specs.Steps.{Step, flat, stepWords, listChildren, normalWithin, normalSteps, normalSize, normalCount, parentWord, indexWord, NormalCountLaw, Walk, markOf, eachChild, finish, refer, visit}
+use Rattle.defs.specs.Steps.{Step, stepSize, flat, stepWords, listChildren, normalWithin, normalSteps, normalSize, normalCount, parentWord, indexWord, NormalCountLaw, Walk, markOf, eachChild, finish, refer, visit}
 use Rattle.defs.specs.Replay.{stepsIn}
 
 -- ---- a table that is not refused passes each test
@@ -51,7 +51,7 @@ unfolding flat
 flat-append [] ys = refl
 flat-append (t ∷ ts) ys = ap (λ (r : List ℕ). stepWords t ++ r) (flat-append ts ys) ∙ sym (append-assoc (stepWords t) (flat ts) (flat ys))
 
-pub flat-length : (ts : List Step) → length (flat ts) ≡ 5 * length ts
+pub flat-length : (ts : List Step) → length (flat ts) ≡ stepSize * length ts
 unfolding flat stepWords
 flat-length [] = refl
 flat-length (t ∷ ts) = omega (arith, flat-length ts)

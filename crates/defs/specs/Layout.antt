@@ -13,12 +13,17 @@ pub record Layout : Type 0 where
   pub indent : ℕ
   pub first : ℕ
 
+-- default width 79, indent 6, first position 0
 unfoldable pub standard : Layout
 standard = record { width = 79; indent = 6; first = 0 }
 
+-- the widest line that may be asked for
+abbrev pub maxWidth : ℕ
+maxWidth = 255
+
 -- bounds: width at most 255, indent at least 1 and at most width − 2, first position below indent
 unfoldable pub layoutRules : Layout → List Bool
-layoutRules l = leb (l .width) 255 ∷ leb 1 (l .indent) ∷ leb (l .indent + 2) (l .width) ∷ ltb (l .first) (l .indent) ∷ []
+layoutRules l = leb (l .width) maxWidth ∷ leb 1 (l .indent) ∷ leb (l .indent + 2) (l .width) ∷ ltb (l .first) (l .indent) ∷ []
 
 -- 8: layout outside its bounds
 unfoldable pub bad8 : Layout → Bool

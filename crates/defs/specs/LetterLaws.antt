@@ -11,6 +11,7 @@ use lib.Dec.{T, leb, ltb, eqb, le→leb, leb→le, lt→ltb, eqb→eq}
 use mathlib.Core.Logic.{_⊎_, inl, inr}
 use Rattle.laws.specs.Tools.{pick, member, place}
 use mir.Facts.{yes-eqb, and-yes, yes-and}
+use Rattle.defs.specs.Table.{maxWord}
 use Rattle.defs.specs.Steps.{Step, isNormal}
 use Rattle.defs.specs.Letters.{leading, code, stepNumber, stepLetters, lettersOf}
 use Rattle.defs.specs.Decode.{Reading, stepNamed, finishCode, leadCode, markStep, oneLetter, orRefuse, allLetters, markLast}
@@ -67,7 +68,7 @@ module _ (thm labels : List ℕ) where
   -- what a finished code with number v does: refused where v names nothing yet, else its step
   unfoldable pub named : ℕ → ℕ → List Step → Option Reading
   named v given out =
-      pick (ltb v (length thm + length labels + given)) (some (record { pending = 0; finished = true; given = given; out = out ++ stepNamed thm labels v ∷ [] })) none
+      pick (ltb v (length thm + length labels + given) && leb v maxWord) (some (record { pending = 0; finished = true; given = given; out = out ++ stepNamed thm labels v ∷ [] })) none
 
   pub read-code : (v : ℕ) (rest : List ℕ) (f : Bool) (given : ℕ) (out : List Step)
       → allLetters thm labels (code v ++ rest) (record { pending = 0; finished = f; given = given; out = out })
@@ -224,23 +225,24 @@ module _ (thm labels : List ℕ) where
       ∙ ap (λ (m : ℕ). allLetters thm labels rest (record { pending = 0; finished = true; given = given; out = out ++ remarked t m ∷ [] })) (sym e)
       ∙ ap (λ (k : ℕ). allLetters thm labels rest (record { pending = 0; finished = true; given = k; out = out ++ t ∷ [] })) (sym (pick-yes (eqb (t .mark) 0) given (given + 1) (yes-eqb e)))
 
-  with-mark : (t : Step) (rest : List ℕ) (given : ℕ) (out : List Step) → t .mark ≡ given + 1
+  with-mark : (t : Step) (rest : List ℕ) (given : ℕ) (out : List Step) → t .mark ≡ given + 1 → given < maxWord
       → allLetters thm labels (pick (eqb (t .mark) 0) [] (90 ∷ []) ++ rest) (record { pending = 0; finished = true; given = given; out = out ++ unmarked t ∷ [] })
       ≡ allLetters thm labels rest (record { pending = 0; finished = false; given = marksAfter given t; out = out ++ t ∷ [] })
   unfolding marksAfter unmarked remarked allLetters oneLetter markStep orRefuse
-  with-mark t rest given out e =
+  with-mark t rest given out e small =
       let off : T (eqb (t .mark) 0) → ⊥ = λ x. let z = eqb→eq (t .mark) 0 x in absurd (omega arith) in
       ap (λ (l : List ℕ). allLetters thm labels (l ++ rest) (record { pending = 0; finished = true; given = given; out = out ++ unmarked t ∷ [] })) (pick-no (eqb (t .mark) 0) [] (90 ∷ []) off)
+      ∙ ap (λ (o : Option Reading). orRefuse o (λ next. allLetters thm labels rest next)) (pick-yes (ltb given maxWord) _ none (lt→ltb given maxWord small))
       ∙ ap (λ (o : List Step). allLetters thm labels rest (record { pending = 0; finished = false; given = given + 1; out = o })) (markLast-append (given + 1) out (unmarked t))
       ∙ ap (λ (m : ℕ). allLetters thm labels rest (record { pending = 0; finished = false; given = given + 1; out = out ++ remarked t m ∷ [] })) (sym e)
       ∙ ap (λ (k : ℕ). allLetters thm labels rest (record { pending = 0; finished = false; given = k; out = out ++ t ∷ [] })) (sym (pick-no (eqb (t .mark) 0) given (given + 1) off))
 
   -- the letters of one step, read
-  one-back : (t : Step) (rest : List ℕ) (f : Bool) (given : ℕ) (out : List Step) → Readable thm labels given t
+  one-back : (t : Step) (rest : List ℕ) (f : Bool) (given : ℕ) (out : List Step) → Readable thm labels given t → length thm + length labels + given < maxWord
       → (f′ : Bool) × (allLetters thm labels (stepLetters thm labels t ++ rest) (record { pending = 0; finished = f; given = given; out = out })
       ≡ allLetters thm labels rest (record { pending = 0; finished = f′; given = marksAfter given t; out = out ++ t ∷ [] }))
   unfolding stepLetters named orRefuse
-  one-back t rest f given out ok =
+  one-back t rest f given out ok small =
       let n : ℕ = stepNumber thm labels t in
       let z : List ℕ = pick (eqb (t .mark) 0) [] (90 ∷ []) in
       let sb = step-back thm labels given t ok in
@@ -249,18 +251,23 @@ module _ (thm labels : List ℕ) where
       ap (λ (l : List ℕ). allLetters thm labels l (record { pending = 0; finished = f; given = given; out = out })) (append-assoc (code n) z rest)
       ∙ read-code thm labels n (z ++ rest) f given out
       ∙ ap (λ (o : Option Reading). orRefuse o (λ next. allLetters thm labels (z ++ rest) next))
-      (pick-yes (ltb n (length thm + length labels + given)) _ none (lt→ltb n (length thm + length labels + given) (sb .0)))
+      (pick-yes (ltb n (length thm + length labels + given) && leb n maxWord) _ none
+      (yes-and (ltb n (length thm + length labels + given)) (leb n maxWord) (lt→ltb n (length thm + length labels + given) (sb .0)) (le→leb n maxWord (omega (arith, sb .0)))))
       ∙ ap (λ (s : Step). allLetters thm labels (z ++ rest) (record { pending = 0; finished = true; given = given; out = out ++ s ∷ [] })) (sb .1) in
       elim (ok .marked) [
         | inl e ↦ (true, start ∙ plain t rest given out e)
-        | inr e ↦ (false, start ∙ with-mark t rest given out e)
+        | inr e ↦ (false, start ∙ with-mark t rest given out e (omega arith))
       ]
 
-  -- the letters of such a list decode to that list, number for number
-  pub letters-back : (ts : List Step) (f : Bool) (given : ℕ) (out : List Step) → AllReadable given ts
+  marks-most : (given : ℕ) (t : Step) → marksAfter given t ≤ given + 1
+  unfolding marksAfter
+  marks-most given t = boole (eqb (t .mark) 0) (λ h. rw h (omega arith)) (λ h. rw h (omega arith))
+
+  -- the letters of such a list decode to that list, number for number, where every number fits its word
+  pub letters-back : (ts : List Step) (f : Bool) (given : ℕ) (out : List Step) → AllReadable given ts → length thm + length labels + given + length ts ≤ maxWord
       → allLetters thm labels (lettersOf thm labels ts) (record { pending = 0; finished = f; given = given; out = out }) ≡ some (out ++ ts)
   unfolding lettersOf allLetters
-  letters-back [] f given out ok = ap some (sym (append-nil out))
-  letters-back (t ∷ ts) f given out ok =
-      let o = one-back t (lettersOf thm labels ts) f given out (ok .0) in
-      o .1 ∙ letters-back ts (o .0) (marksAfter given t) (out ++ t ∷ []) (ok .1) ∙ ap some (append-assoc out (t ∷ []) ts)
+  letters-back [] f given out ok small = ap some (sym (append-nil out))
+  letters-back (t ∷ ts) f given out ok small =
+      let o = one-back t (lettersOf thm labels ts) f given out (ok .0) (omega arith) in
+      o .1 ∙ letters-back ts (o .0) (marksAfter given t) (out ++ t ∷ []) (ok .1) (omega (arith, marks-most given t)) ∙ ap some (append-assoc out (t ∷ []) ts)

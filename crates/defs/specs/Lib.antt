@@ -14,7 +14,6 @@ pub mod Refusals
 pub mod Outcome
 pub mod Replay
 pub mod Decode
-pub mod RoundTrip
 -- Laws that follow from them: what a proof of code cites. First those on tests, lists and sums, which know nothing of tables.
 pub mod Laws
 pub mod Checked
@@ -26,6 +25,7 @@ pub mod LetterLaws
 pub mod NameLaws
 pub mod Ranges
 pub mod LineLaws
+pub mod OutcomeLaws
 pub mod Unique
 -- The example of document 01.
 pub mod Opened

@@ -24,7 +24,7 @@ use Rattle.laws.specs.Below.{each}
 
 -- the law
 unfoldable pub LinesFit : Type 0
-LinesFit = (w b : List ℕ) (l : Layout) → tableRefusal w b ≡ 0 → bad8 l ≡ false → bad12 w l ≡ false → widest (l .first) (textOf w b l 0) ≤ l .width
+LinesFit = (w b : List ℕ) (l : Layout) → tableRefusal w b ≡ 0 → bad8 l ≡ false → bad12 w l ≡ false → widest (l .first) (textOf w b 0 l) ≤ l .width
 
 -- ---- columns
 

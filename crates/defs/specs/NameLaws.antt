@@ -7,11 +7,12 @@ use native.Mathlib.Decide.{decLt, ℕ-discrete}
 use mathlib.Core.Bool.{true, false, not}
 use mathlib.Core.List.{List, [], _∷_, _++_}
 use lib.ListN.{length, getD}
-use Rattle.laws.specs.Tools.{firstFrom, same, sumBelow, count}
+use Rattle.laws.specs.Tools.{firstFrom, same, count}
 use Rattle.defs.specs.Table.{statements, label}
 use Rattle.defs.specs.Names.{digitsWithin, digits, isLabel, isFree, nameNumber, name}
 use Rattle.laws.specs.Lists.{boole, clash, T-of, All, same-is, leb-yes, leb-no}
-use Rattle.laws.specs.Sums.{length-tot, tot-sum, sum-le, sum-one, count-places}
+use Rattle.laws.specs.Sums.{count-places}
+use Rattle.laws.specs.Counting.{once-below}
 use Rattle.laws.specs.Below.{someBelow-yes, first-low, first-high, first-before, first-is}
 
 -- ---- decimals are read back
@@ -81,10 +82,8 @@ module _ (w b : List ℕ) where
   crowded : (start n : ℕ) → ((x : ℕ) → start ≤ x → x < start + n → isFree w b x ≡ false) → n ≤ statements w
   crowded start n h =
       let r = holders start n h in
-      let s = statements w in
       let once : (x : ℕ) → count x (r .ks) ≤ 1 = count-places (λ k. value 0 (label w b k)) start (r .ks) (r .hold) in
-      let most : sumBelow (λ x. count x (r .ks) * 1) s ≤ sumBelow (λ x. 1) s = sum-le (λ x. count x (r .ks) * 1) (λ x. 1) s (λ x l. omega (arith, once x)) in
-      omega (arith, r .as-many, length-tot (r .ks), tot-sum (λ x. 1) s (r .ks) (r .low), most, sum-one s)
+      omega (arith, r .as-many, once-below (statements w) (r .ks) (r .low) once)
 
   -- ---- the names
 

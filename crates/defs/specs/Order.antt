@@ -84,13 +84,17 @@ best cost (suc i) room =
     let with-it : ℕ = cost i + best cost i (room - cost i) in
     pick (leb (cost i) room) (max without with-it) without
 
+-- where item i is left out, the rest still reaches the greatest total
+unfoldable pub restReaches : (ℕ → ℕ) → ℕ → ℕ → Bool
+restReaches cost i room = eqb (best cost (suc i) room) (best cost i room)
+
 -- the set: from the highest item down, leave an item out whenever the rest still reaches the greatest total. Ascending
 unfoldable pub choose : (ℕ → ℕ) → ℕ → ℕ → List ℕ
 choose cost zero room = []
 choose cost (suc i) room =
     let without : List ℕ = choose cost i room in
     let with-it : List ℕ = choose cost i (room - cost i) ++ i ∷ [] in
-    pick (eqb (best cost (suc i) room) (best cost i room)) without with-it
+    pick (restReaches cost i room) without with-it
 
 -- ---- emission
 

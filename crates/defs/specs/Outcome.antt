@@ -1,14 +1,12 @@
 -- What every writer answers, and what all lent slices then hold. A writer tests 1 to 9, 14, 10 to 13, 15, skipping what does not apply.
 use Prim.Native.Nat.{ℕ}
 use mathlib.Core.Bool.{Bool, not, _&&_, _||_}
-use mathlib.Core.List.{List, [], _∷_, _++_}
+use mathlib.Core.List.{List, [], _∷_, _++_, map}
 use lib.ListN.{length}
 use lib.Dec.{eqb, leb}
 use Rattle.laws.specs.Tools.{pick, over, zeroed}
-use Rattle.defs.specs.Table.{entries, qed}
 use Rattle.defs.specs.Check.{Test, _when_, firstOf, orElse, tableRefusal}
-use Rattle.defs.specs.Graph.{graphOf}
-use Rattle.defs.specs.Counts.{parents, distances}
+use Rattle.defs.specs.Counts.{parentsOf, distancesOf}
 use Rattle.defs.specs.Steps.{flat}
 use Rattle.defs.specs.Layout.{Layout, bad8}
 use Rattle.defs.specs.Text.{isCompressed, isPacked, bad9, packedOf, normalOf, labelsOf, lettersFor, textOf}
@@ -31,9 +29,28 @@ lengthAfter k result = pick (eqb k 0) (length result) 0
 unfoldable pub outAfter : ℕ → List ℕ → List ℕ → List ℕ
 outAfter k result out = pick (eqb k 0) (over result out) out
 
--- refusals 1 to 9 and 14 leave working slices unchanged, any other ending leaves them all zero
+-- refusals 1 to 9 and 14 come before any work
+unfoldable pub isEarly : ℕ → Bool
+isEarly k = (leb 1 k && leb k 9) || eqb k 14
+
+-- they leave working slices unchanged, any other ending leaves them all zero
 unfoldable pub workAfter : ℕ → List ℕ → List ℕ
-workAfter k work = pick ((leb 1 k && leb k 9) || eqb k 14) work (zeroed work)
+workAfter k work = pick (isEarly k) work (zeroed work)
+
+-- the answer of a writer with one output; the working slices stand in the order in which they are lent
+unfoldable pub oneOutput : (k : ℕ) (result : List ℕ) (works : List (List ℕ)) (out : List ℕ) → Outcome
+oneOutput k result works out =
+    record { number = k; lengths = lengthAfter k result ∷ []; outs = outAfter k result out ∷ []; works = map (workAfter k) works }
+
+-- of one with two outputs
+unfoldable pub twoOutputs : (k : ℕ) (result₁ result₂ : List ℕ) (works : List (List ℕ)) (out₁ out₂ : List ℕ) → Outcome
+twoOutputs k result₁ result₂ works out₁ out₂ =
+    record {
+      number = k;
+      lengths = lengthAfter k result₁ ∷ lengthAfter k result₂ ∷ [];
+      outs = outAfter k result₁ out₁ ∷ outAfter k result₂ out₂ ∷ [];
+      works = map (workAfter k) works;
+    }
 
 -- ---- the check: 1 to 7; nothing is written and nothing is lent to be written
 
@@ -42,23 +59,14 @@ checkOutcome w b = record { number = tableRefusal w b; lengths = []; outs = []; 
 
 -- ---- parents and distances: 1 to 7 and 15, no working slice
 
-unfoldable pub parentsNumber : (w b out : List ℕ) → ℕ
-parentsNumber w b out = orElse (tableRefusal w b) (firstOf (15 when (bad15 (parents (graphOf w) (entries w)) out) ∷ []))
+unfoldable pub countsNumber : (w b result out : List ℕ) → ℕ
+countsNumber w b result out = orElse (tableRefusal w b) (firstOf (15 when bad15 result out ∷ []))
 
 unfoldable pub parentsOutcome : (w b out : List ℕ) → Outcome
-parentsOutcome w b out =
-    let k : ℕ = parentsNumber w b out in
-    let result : List ℕ = parents (graphOf w) (entries w) in
-    record { number = k; lengths = lengthAfter k result ∷ []; outs = outAfter k result out ∷ []; works = [] }
-
-unfoldable pub distancesNumber : (w b out : List ℕ) → ℕ
-distancesNumber w b out = orElse (tableRefusal w b) (firstOf (15 when (bad15 (distances (graphOf w) (entries w) (qed w)) out) ∷ []))
+parentsOutcome w b out = oneOutput (countsNumber w b (parentsOf w) out) (parentsOf w) [] out
 
 unfoldable pub distancesOutcome : (w b out : List ℕ) → Outcome
-distancesOutcome w b out =
-    let k : ℕ = distancesNumber w b out in
-    let result : List ℕ = distances (graphOf w) (entries w) (qed w) in
-    record { number = k; lengths = lengthAfter k result ∷ []; outs = outAfter k result out ∷ []; works = [] }
+distancesOutcome w b out = oneOutput (countsNumber w b (distancesOf w) out) (distancesOf w) [] out
 
 -- ---- step lists: 1 to 7, 14, 13 (normal only), 15
 
@@ -68,18 +76,16 @@ stepListWords w packed explicit =
     let n : List ℕ = flat (normalOf w explicit) in
     pick packed p n
 
-unfoldable pub stepListNumber : (w b : List ℕ) (packed explicit : Bool) (out work : List ℕ) → ℕ
-stepListNumber w b packed explicit out work =
-    orElse (tableRefusal w b) (firstOf (14 when (bad14 (need32 w) work)
+unfoldable pub stepListNumber : (w b : List ℕ) (packed explicit : Bool) (work out : List ℕ) → ℕ
+stepListNumber w b packed explicit work out =
+    orElse (tableRefusal w b) (firstOf (14 when bad14 (need32 w) work
     ∷ 13 when (not packed && bad13 w)
-    ∷ 15 when (bad15 (stepListWords w packed explicit) out)
+    ∷ 15 when bad15 (stepListWords w packed explicit) out
     ∷ []))
 
-unfoldable pub stepListOutcome : (w b : List ℕ) (packed explicit : Bool) (out work : List ℕ) → Outcome
-stepListOutcome w b packed explicit out work =
-    let k : ℕ = stepListNumber w b packed explicit out work in
-    let result : List ℕ = stepListWords w packed explicit in
-    record { number = k; lengths = lengthAfter k result ∷ []; outs = outAfter k result out ∷ []; works = workAfter k work ∷ [] }
+unfoldable pub stepListOutcome : (w b : List ℕ) (packed explicit : Bool) (work out : List ℕ) → Outcome
+stepListOutcome w b packed explicit work out =
+    oneOutput (stepListNumber w b packed explicit work out) (stepListWords w packed explicit) (work ∷ []) out
 
 -- the tests that only the compressed form has, in order
 unfoldable pub compressedTests : (w : List ℕ) (l : Layout) → List Test
@@ -87,43 +93,30 @@ compressedTests w l = 10 when bad10 w ∷ 11 when bad11 w ∷ 12 when bad12 w l 
 
 -- ---- label list with letters: 1 to 8, 14, 10 to 12, 15 (either output)
 
-unfoldable pub lettersNumber : (w b : List ℕ) (l : Layout) (outLabels outLetters work32 work16 : List ℕ) → ℕ
-lettersNumber w b l outLabels outLetters work32 work16 =
+unfoldable pub lettersNumber : (w b : List ℕ) (l : Layout) (work sums list letters : List ℕ) → ℕ
+lettersNumber w b l work sums list letters =
     orElse (tableRefusal w b) (firstOf (8 when bad8 l
-    ∷ 14 when (bad14 (need32 w) work32 || bad14 (need16 w l) work16)
+    ∷ 14 when (bad14 (need32 w) work || bad14 (need16 w l) sums)
     ∷ compressedTests w l
-    ++ 15 when (bad15 (labelsOf w l) outLabels || bad15 (lettersFor w l) outLetters)
+    ++ 15 when (bad15 (labelsOf w l) list || bad15 (lettersFor w l) letters)
     ∷ []))
 
-unfoldable pub lettersOutcome : (w b : List ℕ) (l : Layout) (outLabels outLetters work32 work16 : List ℕ) → Outcome
-lettersOutcome w b l outLabels outLetters work32 work16 =
-    let k : ℕ = lettersNumber w b l outLabels outLetters work32 work16 in
-    record {
-      number = k;
-      lengths = lengthAfter k (labelsOf w l) ∷ lengthAfter k (lettersFor w l) ∷ [];
-      outs = outAfter k (labelsOf w l) outLabels ∷ outAfter k (lettersFor w l) outLetters ∷ [];
-      works = workAfter k work32 ∷ workAfter k work16 ∷ [];
-    }
+unfoldable pub lettersOutcome : (w b : List ℕ) (l : Layout) (work sums list letters : List ℕ) → Outcome
+lettersOutcome w b l work sums list letters =
+    twoOutputs (lettersNumber w b l work sums list letters) (labelsOf w l) (lettersFor w l) (work ∷ sums ∷ []) list letters
 
 -- ---- text: all, with the u16 slice and 10 to 12 for style 0 and 13 for styles 1 and 3
 
-unfoldable pub textNumber : (w b : List ℕ) (l : Layout) (style : ℕ) (out work32 work16 : List ℕ) → ℕ
-textNumber w b l style out work32 work16 =
+unfoldable pub textNumber : (w b : List ℕ) (style : ℕ) (l : Layout) (work sums out : List ℕ) → ℕ
+textNumber w b style l work sums out =
     orElse (tableRefusal w b) (firstOf (8 when bad8 l
     ∷ 9 when bad9 style
-    ∷ 14 when (bad14 (need32 w) work32 || (isCompressed style && bad14 (need16 w l) work16))
+    ∷ 14 when (bad14 (need32 w) work || (isCompressed style && bad14 (need16 w l) sums))
     ∷ pick (isCompressed style) (compressedTests w l) []
     ++ 13 when (not (isPacked style) && bad13 w)
-    ∷ 15 when (bad15 (textOf w b l style) out)
+    ∷ 15 when bad15 (textOf w b style l) out
     ∷ []))
 
-unfoldable pub textOutcome : (w b : List ℕ) (l : Layout) (style : ℕ) (out work32 work16 : List ℕ) → Outcome
-textOutcome w b l style out work32 work16 =
-    let k : ℕ = textNumber w b l style out work32 work16 in
-    let result : List ℕ = textOf w b l style in
-    record {
-      number = k;
-      lengths = lengthAfter k result ∷ [];
-      outs = outAfter k result out ∷ [];
-      works = workAfter k work32 ∷ workAfter k work16 ∷ [];
-    }
+unfoldable pub textOutcome : (w b : List ℕ) (style : ℕ) (l : Layout) (work sums out : List ℕ) → Outcome
+textOutcome w b style l work sums out =
+    oneOutput (textNumber w b style l work sums out) (textOf w b style l) (work ∷ sums ∷ []) out

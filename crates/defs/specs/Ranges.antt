@@ -8,11 +8,11 @@ use lib.ListN.{length, getD, set, replicate, length-set, length-replicate}
 use lib.Seq.{getD-set-other}
 use lib.Dec.{eqb, ltb, eqb→eq, eqb·zero-suc}
 use Rattle.laws.specs.Tools.{pick, range, keep, count}
-use Rattle.defs.specs.Table.{statements, entries, childRefs, qed, labelLength, childCount, children}
+use Rattle.defs.specs.Table.{maxWord, maxStatements, maxEntries, maxChildRefs, statements, entries, childRefs, qed, labelLength, childCount, children}
 use Rattle.defs.specs.Check.{tableRefusal}
-use Rattle.defs.specs.Graph.{Graph, graphOf}
-use Rattle.defs.specs.Counts.{parentsOf, parents, lower, descend, distances, unreached}
-use Rattle.defs.specs.Steps.{Step, isNormal, stepWords, flat, Walk, markOf, parentWord, indexWord, refer, finish, eachChild, visit, packedWith, packedSteps, listChildren, normalWithin, normalSteps}
+use Rattle.defs.specs.Graph.{Graph, graphIn, graphOf}
+use Rattle.defs.specs.Counts.{parentCount, parents, lower, descend, distances, unreached}
+use Rattle.defs.specs.Steps.{Step, isNormal, stepWords, flat, Walk, markOf, parentWord, indexWord, refer, getsMark, finish, eachChild, visit, packedWith, packedSteps, listChildren, normalWithin, normalSteps}
 use Rattle.defs.specs.Text.{packedOf, normalOf, labelsOf}
 use Rattle.defs.specs.Letters.{leading, code, stepNumber, stepLetters, lettersOf}
 use Rattle.defs.specs.Order.{used}
@@ -33,7 +33,7 @@ pub record StepFits (s m : ℕ) (t : Step) : Type 0 where
   pub mark-most : t .mark ≤ m
   pub stmt-below : t .stmt < s
   pub parent-most : t .parent ≤ s
-  pub index-most : t .index ≤ 65535
+  pub index-most : t .index ≤ maxChildRefs
 
 fits-more : (s m k : ℕ) → m ≤ k → (t : Step) → StepFits s m t → StepFits s k t
 fits-more s m k l t f =
@@ -53,11 +53,11 @@ parent-small : (s k : ℕ) (explicit : Bool) → k < s → parentWord explicit k
 parent-small s k true l = omega arith
 parent-small s k false l = omega arith
 
-index-small : (j : ℕ) (explicit : Bool) → j ≤ 65535 → indexWord explicit j ≤ 65535
+index-small : (j : ℕ) (explicit : Bool) → j ≤ maxChildRefs → indexWord explicit j ≤ maxChildRefs
 index-small j true l = l
 index-small j false l = omega arith
 
-module _ (g : Graph) (n s : ℕ) (fall : Falls g n) (stmts : (e : ℕ) → e < n → g .stmt e < s) (few : (e : ℕ) → e < n → length (g .kids e) ≤ 65535) (some : 1 ≤ s) where
+module _ (g : Graph) (n s : ℕ) (fall : Falls g n) (stmts : (e : ℕ) → e < n → g .stmt e < s) (few : (e : ℕ) → e < n → length (g .kids e) ≤ maxChildRefs) (some : 1 ≤ s) where
   -- where a walk stands: a mark for each mark given, no more than entries; the steps fit
   record Sound (r : Walk) : Type 0 where
     len : length (r .marks) ≡ n
@@ -80,7 +80,7 @@ module _ (g : Graph) (n s : ℕ) (fall : Falls g n) (stmts : (e : ℕ) → e < n
   mark-small : (r : Walk) → Sound r → (e : ℕ) → e < n → markOf r e ≤ r .given
   mark-small r h e l = all-at (λ m. m ≤ r .given) (r .marks) 0 (h .marks-most) e (omega (arith, h .len))
 
-  refer-after : (e parent index : ℕ) (r : Walk) → Sound r → e < n → parent ≤ s → index ≤ 65535 → After (suc e) r (refer e parent index r)
+  refer-after : (e parent index : ℕ) (r : Walk) → Sound r → e < n → parent ≤ s → index ≤ maxChildRefs → After (suc e) r (refer e parent index r)
   unfolding refer
   refer-after e parent index r h l p i =
       record {
@@ -95,11 +95,11 @@ module _ (g : Graph) (n s : ℕ) (fall : Falls g n) (stmts : (e : ℕ) → e < n
         rest = λ x m. refl;
       }
 
-  finish-after : (ps : List ℕ) (e parent index : ℕ) (r : Walk) → Sound r → e < n → markOf r e ≡ 0 → parent ≤ s → index ≤ 65535
+  finish-after : (ps : List ℕ) (e parent index : ℕ) (r : Walk) → Sound r → e < n → markOf r e ≡ 0 → parent ≤ s → index ≤ maxChildRefs
       → After (suc e) r (finish g ps e parent index r)
   unfolding finish
   finish-after ps e parent index r h l z p i =
-      boole (ltb 0 (length (g .kids e)) && ltb 1 (getD ps e 0))
+      boole (getsMark g ps e)
       (λ y. rw y (record {
         sound = record {
           len = length-set (r .marks) e (suc (r .given)) ∙ h .len;
@@ -124,15 +124,15 @@ module _ (g : Graph) (n s : ℕ) (fall : Falls g n) (stmts : (e : ℕ) → e < n
       }))
 
   each-after : (e : ℕ) (f : ℕ → ℕ → Walk → Walk)
-      → ((c j : ℕ) (r : Walk) → c < e → j ≤ 65535 → Sound r → After (suc c) r (f c j r))
-      → (j : ℕ) (cs : List ℕ) → j + length cs ≤ 65535 → All (λ c. c < e) cs → (r : Walk) → Sound r → After e r (eachChild f j cs r)
+      → ((c j : ℕ) (r : Walk) → c < e → j ≤ maxChildRefs → Sound r → After (suc c) r (f c j r))
+      → (j : ℕ) (cs : List ℕ) → j + length cs ≤ maxChildRefs → All (λ c. c < e) cs → (r : Walk) → Sound r → After e r (eachChild f j cs r)
   unfolding eachChild
   each-after e f h j [] l a r k = after-same e r k
   each-after e f h j (c ∷ cs) l a r k =
       let one = h c j r (a .0) (omega arith) k in
       after-then (suc c) e r (f c j r) _ (omega (arith, a .0)) one (each-after e f h (suc j) cs (omega arith) (a .1) (f c j r) (one .sound))
 
-  visit-after : (ps : List ℕ) (explicit : Bool) (depth e parent index : ℕ) (r : Walk) → Sound r → e < n → parent ≤ s → index ≤ 65535
+  visit-after : (ps : List ℕ) (explicit : Bool) (depth e parent index : ℕ) (r : Walk) → Sound r → e < n → parent ≤ s → index ≤ maxChildRefs
       → After (suc e) r (visit g ps explicit depth e parent index r)
   unfolding visit Falls
   visit-after ps explicit zero e parent index r h l p i = after-same (suc e) r h
@@ -146,22 +146,31 @@ module _ (g : Graph) (n s : ℕ) (fall : Falls g n) (stmts : (e : ℕ) → e < n
       (finish-after ps e parent index b (below .sound) l (below .rest e (omega arith) ∙ eqb→eq _ _ (T-of y)) p i)))
       (λ y. rw y (refer-after e parent index r h l p i))
 
+  -- where the packed walk from QED ends
+  packed-sound : (ps : List ℕ) (explicit : Bool) (q : ℕ) → q < n → Sound (visit g ps explicit (suc q) q 0 0 (record { marks = replicate n 0; given = 0; out = [] }))
+  packed-sound ps explicit q l =
+      visit-after ps explicit (suc q) q 0 0 (record { marks = replicate n 0; given = 0; out = [] })
+      (record { len = length-replicate n 0; zeros = omega (arith, zeros-all n); marks-most = all-replicate (λ m. m ≤ 0) n 0 (omega arith); outs = tt }) l (omega arith) (omega arith)
+      .sound
+
+  -- it gives no more marks than there are entries
+  pub given-most : (ps : List ℕ) (explicit : Bool) (q : ℕ) → q < n
+      → visit g ps explicit (suc q) q 0 0 (record { marks = replicate n 0; given = 0; out = [] }) .given ≤ n
+  given-most ps explicit q l = omega (arith, packed-sound ps explicit q l .zeros)
+
   pub packed-fits : (ps : List ℕ) (explicit : Bool) (q : ℕ) → q < n → All (StepFits s n) (packedWith ps g n q explicit)
   unfolding packedWith
   packed-fits ps explicit q l =
-      let start : Walk = record { marks = replicate n 0; given = 0; out = [] } in
-      let a = visit-after ps explicit (suc q) q 0 0 start
-      (record { len = length-replicate n 0; zeros = omega (arith, zeros-all n); marks-most = all-replicate (λ m. m ≤ 0) n 0 (omega arith); outs = tt }) l (omega arith) (omega arith) .sound in
-      let m : ℕ = visit g ps explicit (suc q) q 0 0 start .given in
-      all-map (StepFits s m) _ (fits-more s m n (omega (arith, a .zeros))) (visit g ps explicit (suc q) q 0 0 start .out) (a .outs)
+      let end : Walk = visit g ps explicit (suc q) q 0 0 (record { marks = replicate n 0; given = 0; out = [] }) in
+      all-map (StepFits s (end .given)) _ (fits-more s (end .given) n (given-most ps explicit q l)) (end .out) (packed-sound ps explicit q l .outs)
 
-  children-fit : (e : ℕ) (f : ℕ → ℕ → List Step) → ((c j : ℕ) → c < e → j ≤ 65535 → All (StepFits s 0) (f c j))
-      → (j : ℕ) (cs : List ℕ) → j + length cs ≤ 65535 → All (λ c. c < e) cs → All (StepFits s 0) (listChildren f j cs)
+  children-fit : (e : ℕ) (f : ℕ → ℕ → List Step) → ((c j : ℕ) → c < e → j ≤ maxChildRefs → All (StepFits s 0) (f c j))
+      → (j : ℕ) (cs : List ℕ) → j + length cs ≤ maxChildRefs → All (λ c. c < e) cs → All (StepFits s 0) (listChildren f j cs)
   unfolding listChildren
   children-fit e f h j [] l a = tt
   children-fit e f h j (c ∷ cs) l a = all-append (StepFits s 0) (f c j) _ (h c j (a .0) (omega arith)) (children-fit e f h (suc j) cs (omega arith) (a .1))
 
-  pub normal-fits : (explicit : Bool) (depth e parent index : ℕ) → e < n → parent ≤ s → index ≤ 65535
+  pub normal-fits : (explicit : Bool) (depth e parent index : ℕ) → e < n → parent ≤ s → index ≤ maxChildRefs
       → All (StepFits s 0) (normalWithin g explicit depth e parent index)
   unfolding normalWithin Falls
   normal-fits explicit zero e parent index l p i = tt
@@ -174,31 +183,39 @@ module _ (g : Graph) (n s : ℕ) (fall : Falls g n) (stmts : (e : ℕ) → e < n
       (record { ref-most = omega arith; mark-most = omega arith; stmt-below = stmts e l; parent-most = p; index-most = i })
 
 -- the steps of a good table: at most as many marks as entries
-few-kids : (w b : List ℕ) → tableRefusal w b ≡ 0 → (e : ℕ) → e < entries w → length (graphOf w .kids e) ≤ 65535
-unfolding graphOf
+few-kids : (w b : List ℕ) → tableRefusal w b ≡ 0 → (e : ℕ) → e < entries w → length (graphOf w .kids e) ≤ maxChildRefs
+unfolding graphOf graphIn
 few-kids w b ok e l = let h = entry-ok w b ok e l in omega (arith, h .have-length, h .inside, header w (good w b ok .ok1) .c-most)
 
 pub packed-steps-fit : (w b : List ℕ) → tableRefusal w b ≡ 0 → (explicit : Bool) → All (StepFits (statements w) (entries w)) (packedOf w explicit)
-unfolding packedOf packedSteps graphOf
+unfolding packedOf packedSteps graphOf graphIn
 packed-steps-fit w b ok explicit =
     packed-fits (graphOf w) (entries w) (statements w) (falls w b ok) (λ e l. entry-ok w b ok e l .stmt-below) (few-kids w b ok) (omega (arith, theorem-below w b ok))
     (parents (graphOf w) (entries w)) explicit (qed w) (qed-below w b ok)
 
+-- and its packed walk gives no more
+pub packed-marks-fit : (w b : List ℕ) → tableRefusal w b ≡ 0 → (explicit : Bool)
+    → visit (graphOf w) (parents (graphOf w) (entries w)) explicit (suc (qed w)) (qed w) 0 0 (record { marks = replicate (entries w) 0; given = 0; out = [] }) .given ≤ entries w
+unfolding graphOf graphIn
+packed-marks-fit w b ok explicit =
+    given-most (graphOf w) (entries w) (statements w) (falls w b ok) (λ e l. entry-ok w b ok e l .stmt-below) (few-kids w b ok) (omega (arith, theorem-below w b ok))
+    (parents (graphOf w) (entries w)) explicit (qed w) (qed-below w b ok)
+
 pub normal-steps-fit : (w b : List ℕ) → tableRefusal w b ≡ 0 → (explicit : Bool) → All (StepFits (statements w) 0) (normalOf w explicit)
-unfolding normalOf normalSteps graphOf
+unfolding normalOf normalSteps graphOf graphIn
 normal-steps-fit w b ok explicit =
     normal-fits (graphOf w) (entries w) (statements w) (falls w b ok) (λ e l. entry-ok w b ok e l .stmt-below) (few-kids w b ok) (omega (arith, theorem-below w b ok))
     explicit (suc (qed w)) (qed w) 0 0 (qed-below w b ok) (omega arith) (omega arith)
 
--- so every word of a step list is at most 65,535
-flat-fits : (s m : ℕ) → s ≤ 4096 → m ≤ 8192 → (ts : List Step) → All (StepFits s m) ts → All (λ x. x ≤ 65535) (flat ts)
+-- so every number of a step list fits its word
+flat-fits : (s m : ℕ) → s ≤ maxStatements → m ≤ maxEntries → (ts : List Step) → All (StepFits s m) ts → All (λ x. x ≤ maxWord) (flat ts)
 unfolding flat stepWords
 flat-fits s m hs hm [] a = tt
 flat-fits s m hs hm (t ∷ ts) a =
     let f = a .0 in
-    (omega (arith, f .ref-most), (omega (arith, f .mark-most), (omega (arith, f .stmt-below), (omega (arith, f .parent-most), (f .index-most, flat-fits s m hs hm ts (a .1))))))
+    (omega (arith, f .ref-most), (omega (arith, f .mark-most), (omega (arith, f .stmt-below), (omega (arith, f .parent-most), (omega (arith, f .index-most), flat-fits s m hs hm ts (a .1))))))
 
-pub step-words-fit : (w b : List ℕ) → tableRefusal w b ≡ 0 → (packed explicit : Bool) → All (λ x. x ≤ 65535) (stepListWords w packed explicit)
+pub step-words-fit : (w b : List ℕ) → tableRefusal w b ≡ 0 → (packed explicit : Bool) → All (λ x. x ≤ maxWord) (stepListWords w packed explicit)
 unfolding stepListWords
 step-words-fit w b ok true explicit =
     let h = header w (good w b ok .ok1) in flat-fits (statements w) (entries w) (h .s-most) (h .n-most) (packedOf w explicit) (packed-steps-fit w b ok explicit)
@@ -208,7 +225,7 @@ step-words-fit w b ok false explicit =
 -- ---- parents: no more than child references
 
 pub parents-most : (w b : List ℕ) → tableRefusal w b ≡ 0 → All (λ x. x ≤ childRefs w) (parents (graphOf w) (entries w))
-unfolding parents parentsOf graphOf
+unfolding parents parentCount graphOf graphIn
 parents-most w b ok =
     all-image (λ x. x ≤ childRefs w) _ (range 0 (entries w))
     (all-count _ (range 0 (entries w)) (λ e h. omega (
@@ -218,22 +235,22 @@ parents-most w b ok =
       children-sum w b ok,
     )))
 
--- ---- distances: at most 65,535
+-- ---- distances: at most that of what cannot be reached
 
-lower-most : (d : ℕ) (cs ds : List ℕ) → d ≤ 65535 → All (λ x. x ≤ 65535) ds → All (λ x. x ≤ 65535) (lower d cs ds)
+lower-most : (d : ℕ) (cs ds : List ℕ) → d ≤ unreached → All (λ x. x ≤ unreached) ds → All (λ x. x ≤ unreached) (lower d cs ds)
 unfolding lower
 lower-most d [] ds l a = a
-lower-most d (c ∷ cs) ds l a = lower-most d cs _ l (all-set (λ x. x ≤ 65535) ds c _ a (omega arith))
+lower-most d (c ∷ cs) ds l a = lower-most d cs _ l (all-set (λ x. x ≤ unreached) ds c _ a (omega arith))
 
-descend-most : (g : Graph) (e : ℕ) (ds : List ℕ) → All (λ x. x ≤ 65535) ds → All (λ x. x ≤ 65535) (descend g e ds)
+descend-most : (g : Graph) (e : ℕ) (ds : List ℕ) → All (λ x. x ≤ unreached) ds → All (λ x. x ≤ unreached) (descend g e ds)
 unfolding descend
 descend-most g zero ds a = a
 descend-most g (suc e) ds a = descend-most g e _ (lower-most _ (g .kids e) ds (omega arith) a)
 
-pub distances-most : (g : Graph) (n q : ℕ) → All (λ x. x ≤ 65535) (distances g n q)
+pub distances-most : (g : Graph) (n q : ℕ) → All (λ x. x ≤ unreached) (distances g n q)
 unfolding distances
 distances-most g n q =
-    descend-most g n _ (all-set (λ x. x ≤ 65535) (replicate n unreached) q 0 (all-replicate (λ x. x ≤ 65535) n unreached (omega arith)) (omega arith))
+    descend-most g n _ (all-set (λ x. x ≤ unreached) (replicate n unreached) q 0 (all-replicate (λ x. x ≤ unreached) n unreached (omega arith)) (omega arith))
 
 -- ---- the label list: statements of the table
 

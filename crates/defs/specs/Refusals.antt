@@ -33,9 +33,13 @@ bad11 w =
 unfoldable pub bad12 : List ℕ → Layout → Bool
 bad12 w l = any (λ k. ltb (l .width - l .indent) (labelLength w k)) (listed w (packedOf w false))
 
+-- the most steps of a normal list
+abbrev pub maxNormalSteps : ℕ
+maxNormalSteps = 1000000
+
 -- 13: more than 1,000,000 normal steps
 unfoldable pub bad13 : List ℕ → Bool
-bad13 w = ltb 1000000 (normalCount (graphOf w) (qed w))
+bad13 w = ltb maxNormalSteps (normalCount (graphOf w) (qed w))
 
 -- working u32: 8×(n+c+s+1); for label order also u16: (s+1)×(W+1)
 unfoldable pub need32 : List ℕ → ℕ

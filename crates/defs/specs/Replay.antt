@@ -9,6 +9,7 @@ use Rattle.defs.specs.Table.{statements, hypCount, entrySize, maxEntries
 use Rattle.defs.specs.Check.{_when_, firstOf, orElse, tableRefusal}
 use Rattle.defs.specs.Graph.{Graph, graphIn}
 use Rattle.defs.specs.Steps.{Step, stepSize, isNormal}
+use Rattle.defs.specs.Refusals.{bad14}
 use Rattle.defs.specs.Outcome.{Outcome}
 
 -- the steps that a slice of words holds, five words each
@@ -131,29 +132,29 @@ replayed w roomBuilt roomKids ts = allSteps w roomBuilt roomKids ts fresh
 -- ---- the answer, and what the two outputs and the working slice hold
 
 -- before the steps: 1 to 7, list a multiple of five (16), working u32 at least twice the steps (14)
-unfoldable pub replayFirst : (w b list work : List ℕ) → ℕ
-replayFirst w b list work =
-    orElse (tableRefusal w b) (firstOf (16 when (not (eqb (length list % stepSize) 0)) ∷ 14 when (ltb (length work) (2 * (length list / stepSize))) ∷ []))
+unfoldable pub replayFirst : (w b steps work : List ℕ) → ℕ
+replayFirst w b steps work =
+    orElse (tableRefusal w b) (firstOf (16 when (not (eqb (length steps % stepSize) 0)) ∷ 14 when bad14 (2 * (length steps / stepSize)) work ∷ []))
 
 -- refused before the steps: nothing changes
-unfoldable pub unchanged : ℕ → (outBuilt outKids work : List ℕ) → Outcome
-unchanged k outBuilt outKids work =
-    record { number = k; lengths = 0 ∷ 0 ∷ []; outs = outBuilt ∷ outKids ∷ []; works = work ∷ [] }
+unfoldable pub unchanged : ℕ → (work entries children : List ℕ) → Outcome
+unchanged k work entries children =
+    record { number = k; lengths = 0 ∷ 0 ∷ []; outs = entries ∷ children ∷ []; works = work ∷ [] }
 
 -- refused later: both outputs and the working slice are zero. Success: unused output and the working slice are zero
-unfoldable pub settled : (outBuilt outKids work : List ℕ) → Turn → Outcome
-settled outBuilt outKids work (refused k) =
-    record { number = k; lengths = 0 ∷ 0 ∷ []; outs = zeroed outBuilt ∷ zeroed outKids ∷ []; works = zeroed work ∷ [] }
-settled outBuilt outKids work (going r) =
+unfoldable pub settled : (work entries children : List ℕ) → Turn → Outcome
+settled work entries children (refused k) =
+    record { number = k; lengths = 0 ∷ 0 ∷ []; outs = zeroed entries ∷ zeroed children ∷ []; works = zeroed work ∷ [] }
+settled work entries children (going r) =
     record {
       number = 0;
       lengths = length (r .built) ∷ length (r .kids) ∷ [];
-      outs = overZero (r .built) outBuilt ∷ overZero (r .kids) outKids ∷ [];
+      outs = overZero (r .built) entries ∷ overZero (r .kids) children ∷ [];
       works = zeroed work ∷ [];
     }
 
-unfoldable pub replayOutcome : (w b list outBuilt outKids work : List ℕ) → Outcome
-replayOutcome w b list outBuilt outKids work =
-    let k : ℕ = replayFirst w b list work in
-    let after : Outcome = settled outBuilt outKids work (replayed w (length outBuilt) (length outKids) (stepsIn list)) in
-    pick (eqb k 0) after (unchanged k outBuilt outKids work)
+unfoldable pub replayOutcome : (w b steps work entries children : List ℕ) → Outcome
+replayOutcome w b steps work entries children =
+    let k : ℕ = replayFirst w b steps work in
+    let after : Outcome = settled work entries children (replayed w (length entries) (length children) (stepsIn steps)) in
+    pick (eqb k 0) after (unchanged k work entries children)

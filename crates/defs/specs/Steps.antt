@@ -59,10 +59,14 @@ refer e parent index s =
       out = s .out ++ record { ref = markOf s e; mark = 0; stmt = 0; parent = parent; index = index } ∷ [];
     }
 
--- after its children an entry lists itself; if it has children and more than one counted parent it gets the next mark
+-- an entry gets a mark if it has children and more than one counted parent; childless entries are never marked
+unfoldable pub getsMark : Graph → (ps : List ℕ) → ℕ → Bool
+getsMark g ps e = ltb 0 (length (g .kids e)) && ltb 1 (getD ps e 0)
+
+-- after its children an entry lists itself, with the next mark from 1 if it gets one
 unfoldable pub finish : Graph → List ℕ → ℕ → ℕ → ℕ → Walk → Walk
 finish g ps e parent index s =
-    let marked : Bool = ltb 0 (length (g .kids e)) && ltb 1 (getD ps e 0) in
+    let marked : Bool = getsMark g ps e in
     let next : ℕ = suc (s .given) in
     record {
       marks = pick marked (set (s .marks) e next) (s .marks);

@@ -75,8 +75,8 @@ compressedText w b l order letters =
     close l (putLetters l close-paren letters)
 
 -- the text of a table in a style
-unfoldable pub textOf : List ℕ → List ℕ → Layout → ℕ → List ℕ
-textOf w b l style =
+unfoldable pub textOf : (w b : List ℕ) (style : ℕ) → Layout → List ℕ
+textOf w b style l =
     let compressed : List ℕ = compressedText w b l (labelsOf w l) (lettersFor w l) in
     let packed : List ℕ = stepsText w b l (isExplicit style) (packedOf w (isExplicit style)) in
     let normal : List ℕ = stepsText w b l (isExplicit style) (normalOf w (isExplicit style)) in

@@ -7,9 +7,9 @@ use mathlib.Core.List.{List, [], _∷_, _++_, map}
 use lib.ListN.{length, getD, length-map}
 use lib.Seq.{ext-getD}
 use lib.Dec.{eqb}
-use Rattle.laws.specs.Tools.{pick, range, any, keep, member, repeats, count, addNew, firsts, insertBy, sortBy}
+use Rattle.laws.specs.Tools.{pick, sumBelow, range, any, keep, member, repeats, count, addNew, firsts, insertBy, sortBy}
 use Rattle.laws.specs.Lists.{or-no, boole, T-of, no-T, clash, All, all-getD, getD-map, range-length, range-at}
-use Rattle.laws.specs.Sums.{tot, bit, bit-cases, count-append, length-tot, sum-eq, tot-sum, all-count, count-all, member-count, count-no, count-self, count-places}
+use Rattle.laws.specs.Sums.{sum-le, sum-one, tot, bit, bit-cases, count-append, length-tot, sum-eq, tot-sum, all-count, count-all, member-count, count-no, count-self, count-places}
 
 -- ---- sorting moves, and adds or drops nothing
 
@@ -117,6 +117,12 @@ range-once m x = count-places (λ y. y) 0 (range 0 m) (λ i l. range-at 0 m i 0 
 
 pub range-below : (m : ℕ) → All (λ x. x < m) (range 0 m)
 range-below m = all-getD (λ x. x < m) (range 0 m) (λ i l. (let k : i < m = rw (range-length 0 m) at l in omega (arith, range-at 0 m i 0 k)))
+
+-- numbers below n, none twice, are at most n
+pub once-below : (n : ℕ) (xs : List ℕ) → All (λ x. x < n) xs → ((x : ℕ) → count x xs ≤ 1) → length xs ≤ n
+once-below n xs low once =
+    let most : sumBelow (λ x. count x xs * 1) n ≤ sumBelow (λ x. 1) n = sum-le (λ x. count x xs * 1) (λ x. 1) n (λ x l. omega (arith, once x)) in
+    omega (arith, length-tot xs, tot-sum (λ x. 1) n xs low, most, sum-one n)
 
 tot-map : (w f : ℕ → ℕ) (xs : List ℕ) → tot w (map f xs) ≡ tot (λ x. w (f x)) xs
 tot-map w f [] = refl

@@ -1,7 +1,7 @@
 -- The letters of a covered table decode to its packed list: the list is readable, and its label list is not refused.
 use mathlib.Core.Path.{_≡_, refl, ap, _∙_}
 use mathlib.Core.Logic.{_⊎_, inl, inr}
-use Prim.Native.Nat.{ℕ, suc, _-_, _≤_, _<_, min}
+use Prim.Native.Nat.{ℕ, suc, _+_, _-_, _≤_, _<_, min}
 use native.Mathlib.Omega.{arith}
 use mathlib.Core.Bool.{Bool, true, false, not, _||_}
 use mathlib.Core.Option.{some}
@@ -9,7 +9,7 @@ use mathlib.Core.List.{List, [], _∷_, _++_, map, append-assoc, append-nil}
 use lib.ListN.{length, length-append}
 use lib.Dec.{T, eqb, ltb}
 use Rattle.laws.specs.Tools.{pick, keep, member, count}
-use Rattle.defs.specs.Table.{statements, entries, mandatory}
+use Rattle.defs.specs.Table.{maxWord, statements, entries, theorem, mandatory}
 use Rattle.defs.specs.Check.{tableRefusal, firstOf, orElse}
 use Rattle.defs.specs.Graph.{graphOf}
 use Rattle.defs.specs.Steps.{Step, isNormal, flat}
@@ -17,19 +17,23 @@ use Rattle.defs.specs.Order.{used}
 use Rattle.defs.specs.Layout.{Layout, lineRoom}
 use Rattle.defs.specs.Text.{packedOf, labelsOf, lettersFor}
 use Rattle.defs.specs.Refusals.{bad10, bad12}
-use Rattle.defs.specs.Outcome.{lengthAfter, outAfter}
+use Rattle.defs.specs.Outcome.{lengthAfter, outAfter, oneOutput}
 use Rattle.defs.specs.Decode.{badLabels, decoded, refusedSteps, stepsOr, decodeNumber, decodeOutcome}
 use Rattle.defs.specs.LetterLaws.{Readable, AllReadable, marksAfter, letters-back}
-use Rattle.defs.specs.RoundTrip.{Decodes}
+use Rattle.roundtrip.specs.Terms.{Decodes}
 use Rattle.laws.specs.Lists.{boole, T-of, clash, eqb-no, leb-yes, leb-no, All, all-split, all-append, all-map, find, found-lt}
 use Rattle.laws.specs.Sums.{count-all, count-member, count-self}
-use Rattle.laws.specs.Counting.{count-keep, not-repeated, none-is}
-use Rattle.roundtrip.specs.Forests.{Forest, nil, node, Under}
-use Rattle.roundtrip.specs.Walks.{normStep, backStep, marked, mark, markNo, marks, packed, packed-back, marks-back, packed-open, marks-open}
-use Rattle.roundtrip.specs.Lengths.{shared}
+use Rattle.laws.specs.Counting.{count-keep, not-repeated, none-is, once-below}
+use Rattle.lengths.specs.Forests.{Forest, nil, node, Under}
+use Rattle.lengths.specs.Walks.{normStep, backStep, marked, mark, markNo, marks, packed, packed-back, marks-back, packed-open, marks-open}
+use Rattle.lengths.specs.Lengths.{shared}
 use Rattle.defs.specs.LabelLaws.{count-labels}
-use Rattle.roundtrip.specs.Tables.{kids, stmt-below}
-use Rattle.roundtrip.specs.ReadBack.{tree, packed-is, under-q}
+use Rattle.defs.specs.Laws.{good}
+use Rattle.defs.specs.Checked.{header, statement-ok, theorem-below}
+use Rattle.defs.specs.Ranges.{labels-listed}
+use Rattle.lengths.specs.Bound.{packed-most}
+use Rattle.lengths.specs.Tables.{kids, stmt-below}
+use Rattle.lengths.specs.TableWalks.{tree, packed-is, under-q}
 
 -- ---- the packed list is readable, wherever the statements of its normal steps are named
 
@@ -159,11 +163,29 @@ module _ (w b : List ℕ) (l : Layout) (ok : tableRefusal w b ≡ 0) (labels-fit
       let r : AllReadable (mandatory w) labels 0 (list ++ []) = readable (mandatory w) labels pol (graphOf w .stmt) (tree w b ok) [] [] (rw p at all-named) tt in
       rw p (rw (append-nil list) at r)
 
+  -- every number fits its word: there are few hypotheses, labels and steps
+  few : length (mandatory w) + length labels + 0 + length steps ≤ maxWord
+  unfolding mandatory
+  few =
+      let h = header w (good w b ok .ok1) in
+      let thm = statement-ok w b ok (theorem w) (theorem-below w b ok) in
+      let each-below : All (λ k. k < statements w) labels = all-map _ _ (λ k p. p .0) labels (labels-listed w b l ok labels-fit) in
+      omega (
+        arith,
+        h .h-most,
+        h .s-most,
+        h .c-most,
+        thm .hyps-length,
+        thm .hyp-inside,
+        once-below (statements w) labels each-below (λ k. omega (arith, labels-are k)),
+        packed-most w b ok false,
+      )
+
   decodes-to : decoded w labels (lettersFor w l) ≡ some steps
   unfolding decoded lettersFor
-  decodes-to = letters-back (mandatory w) labels steps false 0 [] all-readable
+  decodes-to = letters-back (mandatory w) labels steps false 0 [] all-readable few
 
   pub letters-decode : bad10 w ≡ false → Decodes w b labels (lettersFor w l) steps
-  unfolding Decodes decodeOutcome decodeNumber orElse firstOf refusedSteps stepsOr lengthAfter outAfter
+  unfolding Decodes decodeOutcome oneOutput decodeNumber orElse firstOf refusedSteps stepsOr lengthAfter outAfter
   letters-decode unmixed out room =
       rw (decodes-to, ok, unmixed, labels-fine, leb-no (suc (length out)) (length (flat steps)) (omega arith))

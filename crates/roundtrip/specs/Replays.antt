@@ -15,9 +15,9 @@ use Rattle.defs.specs.Check.{firstOf}
 use Rattle.defs.specs.Steps.{Step, isNormal}
 use Rattle.defs.specs.Replay.{Replay, stepRules, malformed, stackShort, popped, left, noRoom, normalStep, referStep, nameTop, afterStep, Turn, going, andThen, oneStep, allSteps}
 use Rattle.laws.specs.Lists.{boole, or-left, or-right, not-no, eqb-yes, eqb-no, leb-yes, leb-no, All, all-snoc, map-snoc, find, found, found-lt, find-none, found-all, found-at}
-use Rattle.roundtrip.specs.Forests.{Forest, nil, node, relabel, width, sub, Good, Under}
+use Rattle.lengths.specs.Forests.{Forest, nil, node, relabel, width, sub, Good, Under}
 use Rattle.roundtrip.specs.Stores.{Ent, is, at, put, refs, look, intern, Grow, refs-end, put-known, put-new, put-le, put-grow, intern-grow, In, intern-in, look-node, intern-skip, look-skip, look-length, idx, Know, knows-more, know-put}
-use Rattle.roundtrip.specs.Walks.{normStep, backStep, marked, mark, markNo, marks, packed, packed-back, marks-back, packed-open, marks-open}
+use Rattle.lengths.specs.Walks.{normStep, backStep, marked, mark, markNo, marks, packed, packed-back, marks-back, packed-open, marks-open}
 use Rattle.roundtrip.specs.Words.{ents, chil, rep, ents-length, chil-length, built-count, ents-more, chil-more, lookup-is}
 use Rattle.laws.specs.Below.{all-of-each}
 

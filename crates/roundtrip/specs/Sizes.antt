@@ -8,7 +8,7 @@ use lib.ListN.{length, getD, length-append}
 use Rattle.laws.specs.Tools.{sumBelow, count}
 use Rattle.laws.specs.Lists.{boole, All, all-getD, find, found, find-none, found-lt, snoc-cases}
 use Rattle.laws.specs.Sums.{tot, bit-cases, sum-le, sum-one, tot-sum, length-tot, all-count, count-all, mul-le, count-places}
-use Rattle.roundtrip.specs.Forests.{Forest, nil, node, relabel, width, size, trees, sub, sub-eq, width-trees, Good, roots, roots-sub, good-tree}
+use Rattle.lengths.specs.Forests.{Forest, nil, node, relabel, width, size, trees, sub, sub-eq, width-trees, Good, roots, roots-sub, good-tree}
 use Rattle.roundtrip.specs.Stores.{Ent, is, at, put, at-is, stmtS, kidsS, refs, look, intern, In, put-le, put-known, put-new, intern-in, look-length, Wf, wf-intern, read-back, tr, idx, Know, know-more, know-put}
 
 refs-tot : (w : ℕ → ℕ) (st : List Ent) (src : List ℕ) → length src ≡ length st

@@ -9,7 +9,7 @@ use lib.Dec.{eqb, eqb→eq, eqb-refl}
 use mir.Facts.{and-yes}
 use Rattle.laws.specs.Tools.{pick, same}
 use Rattle.laws.specs.Lists.{boole, T-of, of-T, same-refl, same-is, All, all-map, map-all, find, found, found-lt, found-more, find-more, find-none, found-end, find-end, find-is, snoc-cases}
-use Rattle.roundtrip.specs.Forests.{Forest, nil, node, relabel, width, trees, sub, sub-eq}
+use Rattle.lengths.specs.Forests.{Forest, nil, node, relabel, width, trees, sub, sub-eq}
 
 abbrev pub Ent : Type 0
 Ent = ℕ × List ℕ

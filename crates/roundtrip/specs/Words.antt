@@ -10,6 +10,7 @@ use lib.ListN.{length, getD, length-append, take, drop, List·getD-eq-default}
 use lib.Seq.{take-append-seam, drop-append-add}
 use lib.Dec.{eqb}
 use Rattle.laws.specs.Tools.{part, same, firstFrom}
+use Rattle.defs.specs.Table.{childrenIn}
 use Rattle.defs.specs.Graph.{Graph, graphIn}
 use Rattle.defs.specs.Replay.{Replay, builtCount, lookup}
 use Rattle.laws.specs.Lists.{boole, find}
@@ -92,7 +93,7 @@ unfolding graphIn
 graph-stmt st i = ent-stmt 0 st i
 
 pub graph-kids : (st : List Ent) (i : ℕ) → graphIn (ents 0 st) (chil st) .kids i ≡ kidsS st i
-unfolding graphIn
+unfolding graphIn childrenIn
 graph-kids st i =
     let two : 3 * i + 2 ≡ suc (suc (3 * i)) = omega arith in
     let one : 3 * i + 1 ≡ suc (3 * i) = omega arith in

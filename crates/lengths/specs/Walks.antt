@@ -11,9 +11,9 @@ use lib.Seq.{getD-set-same, getD-set-other}
 use lib.Dec.{eqb, ltb, eqb→eq}
 use Rattle.laws.specs.Tools.{pick}
 use Rattle.defs.specs.Graph.{Graph}
-use Rattle.defs.specs.Steps.{Step, Walk, markOf, refer, finish, eachChild, visit, listChildren, normalWithin}
+use Rattle.defs.specs.Steps.{Step, Walk, markOf, refer, getsMark, finish, eachChild, visit, listChildren, normalWithin}
 use Rattle.laws.specs.Lists.{boole, T-of, getD-constant, eqb-yes, eqb-no, All, find, found, find-more, found-end, find-end, found-other}
-use Rattle.roundtrip.specs.Forests.{Forest, nil, node, trees, sub, sub-eq, Under, under-sub}
+use Rattle.lengths.specs.Forests.{Forest, nil, node, trees, sub, sub-eq, Under, under-sub}
 
 abbrev pub normStep : ℕ → ℕ → Step
 normStep m s = record { ref = 0; mark = m; stmt = s; parent = 0; index = 0 }
@@ -127,7 +127,7 @@ record Stands (n : ℕ) (mk : List ℕ) (s : Walk) : Type 0 where
 
 -- a graph whose first n entries have children below them; `kids` is the same for those, and [] past them
 module _ (g : Graph) (n : ℕ) (kids : ℕ → List ℕ) (agree : (e : ℕ) → e < n → g .kids e ≡ kids e) (low : (e : ℕ) → All (λ k. k < e) (kids e)) where
-  module _ (ps : List ℕ) (pol : ℕ → Bool) (pol-is : (e : ℕ) → e < n → (ltb 0 (length (g .kids e)) && ltb 1 (getD ps e 0)) ≡ pol e) where
+  module _ (ps : List ℕ) (pol : ℕ → Bool) (pol-is : (e : ℕ) → e < n → getsMark g ps e ≡ pol e) where
     -- a visit of the forest t from s, where mk is marked, does what `marks` and `packed` say
     abbrev Does : Forest → List ℕ → Walk → Walk → Type 0
     Does t mk s s′ = Stands n (marks pol t mk) s′ × (s′ .out ≡ s .out ++ packed pol (g .stmt) t mk)
@@ -149,7 +149,7 @@ module _ (g : Graph) (n : ℕ) (kids : ℕ → List ℕ) (agree : (e : ℕ) → 
     stands-finish e mk s l st h =
         boole (pol e)
         (λ y.
-        let p : (ltb 0 (length (g .kids e)) && ltb 1 (getD ps e 0)) ≡ true = pol-is e l ∙ y in
+        let p : getsMark g ps e ≡ true = pol-is e l ∙ y in
         rw (y, p) (record {
           places = length-set (s .marks) e _ ∙ st .places;
           given-is = omega (arith, st .given-is, length-append mk (e ∷ []));
@@ -159,7 +159,7 @@ module _ (g : Graph) (n : ℕ) (kids : ℕ → List ℕ) (agree : (e : ℕ) → 
           ];
         }))
         (λ y.
-        let p : (ltb 0 (length (g .kids e)) && ltb 1 (getD ps e 0)) ≡ false = pol-is e l ∙ y in
+        let p : getsMark g ps e ≡ false = pol-is e l ∙ y in
         rw (y, p) (record { places = st .places; given-is = st .given-is; numbers = st .numbers }))
 
     does-finish : (e : ℕ) (mk : List ℕ) (s s₁ : Walk) → e < n → marked e mk ≡ false → Does (sub kids e) mk s s₁ → Does (tree e) mk s (finish g ps e 0 0 s₁)
@@ -167,7 +167,7 @@ module _ (g : Graph) (n : ℕ) (kids : ℕ → List ℕ) (agree : (e : ℕ) → 
     does-finish e mk s s₁ l h d =
         let c = sub kids e in
         let mk1 = marks pol c mk in
-        let m : pick (ltb 0 (length (g .kids e)) && ltb 1 (getD ps e 0)) (suc (s₁ .given)) 0 ≡ markNo pol e mk1 =
+        let m : pick (getsMark g ps e) (suc (s₁ .given)) 0 ≡ markNo pol e mk1 =
         ap₂ (λ (b : Bool) (k : ℕ). pick b (suc k) 0) (pol-is e l) (d .0 .given-is) in
         rw (marks-open pol (g .stmt) e c nil mk h, packed-open pol (g .stmt) e c nil mk h) (
           stands-finish e mk1 s₁ l (d .0) (marks-under pol e e (omega arith) c (under-sub kids low e) mk ∙ h),

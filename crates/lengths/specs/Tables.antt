@@ -11,8 +11,8 @@ use lib.Dec.{T, ltb, ltb→lt, leb→le}
 use Rattle.laws.specs.Tools.{pick, range, member, sumBelow, count}
 use Rattle.defs.specs.Table.{statements, entries, childRefs, qed, hypCount, childCount}
 use Rattle.defs.specs.Check.{tableRefusal}
-use Rattle.defs.specs.Graph.{Graph, graphOf}
-use Rattle.defs.specs.Counts.{parentsOf, parents, distances, reachable, unreached, Way, IsDistance}
+use Rattle.defs.specs.Graph.{Graph, graphIn, graphOf}
+use Rattle.defs.specs.Counts.{parentCount, parents, distances, reachable, unreached, Way, IsDistance}
 use Rattle.defs.specs.Laws.{good, Falls}
 use Rattle.defs.specs.Checked.{header, children-sum, entry-ok, falls, qed-below, distances-right}
 use Rattle.defs.specs.DistanceLaws.{way-below, way-drop}
@@ -45,24 +45,24 @@ module _ (w b : List ℕ) (ok : tableRefusal w b ≡ 0) where
       ]
 
   pub fit : (e : ℕ) → e < n → hypCount w (g .stmt e) ≡ length (kids e)
-  unfolding graphOf
+  unfolding graphOf graphIn
   fit e l = let h = entry-ok w b ok e l in sym (h .as-many) ∙ sym (h .have-length) ∙ ap length (agree e l)
 
   pub stmt-below : (e : ℕ) → e < n → g .stmt e < statements w
-  unfolding graphOf
+  unfolding graphOf graphIn
   stmt-below e l = entry-ok w b ok e l .stmt-below
 
   pub kids-sum : sumBelow (λ x. length (kids x)) n ≡ childRefs w
-  unfolding graphOf
+  unfolding graphOf graphIn
   kids-sum = sum-eq (λ x. length (kids x)) (childCount w) n (λ x l. sym (ap length (agree x l)) ∙ entry-ok w b ok x l .have-length) ∙ children-sum w b ok
 
   -- ---- parents
 
   pub parents-at : (e : ℕ) → e < n → getD (parents g n) e 0 ≡ sumBelow (λ p. count e (kids p)) n
-  unfolding parents parentsOf
+  unfolding parents parentCount
   parents-at e l =
-      getD-map (λ x. parentsOf g n x) (range 0 n) e (rw (range-length 0 n) l)
-      ∙ ap (parentsOf g n) (range-at 0 n e 0 l ∙ omega arith)
+      getD-map (λ x. parentCount g n x) (range 0 n) e (rw (range-length 0 n) l)
+      ∙ ap (parentCount g n) (range-at 0 n e 0 l ∙ omega arith)
       ∙ sum-eq (λ p. count e (g .kids p)) (λ p. count e (kids p)) n (λ p m. ap (count e) (agree p m))
 
   -- ---- what is reachable

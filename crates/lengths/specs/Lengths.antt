@@ -10,8 +10,8 @@ use lib.Dec.{eqb, eqb→eq, eqb-refl, ltb, lt→ltb}
 use Rattle.laws.specs.Tools.{pick, sumBelow, count}
 use Rattle.laws.specs.Lists.{boole, T-of, of-T, clash, All, all-map, all-append, found-other, found-end}
 use Rattle.laws.specs.Sums.{tot, bit, bit-cases, tot-append, tot-ge, sum-le, sum-eq, sum-zero, tot-sum, all-count, count-all, count-length, count-self, mul-le}
-use Rattle.roundtrip.specs.Forests.{Forest, nil, node, width, sub, Good, roots, Under, under-sub, roots-sub, width-roots, good-tree}
-use Rattle.roundtrip.specs.Walks.{normStep, marked, mark, markNo, marks, packed, packed-back, packed-open, mark-other, marks-under}
+use Rattle.lengths.specs.Forests.{Forest, nil, node, width, sub, Good, roots, Under, under-sub, roots-sub, width-roots, good-tree}
+use Rattle.lengths.specs.Walks.{normStep, marked, mark, markNo, marks, packed, packed-back, packed-open, mark-other, marks-under}
 
 -- the entries that the packed walk goes into, in order
 unfoldable pub exps : (ℕ → Bool) → Forest → List ℕ → List ℕ

@@ -1,0 +1,1 @@
+// This crate is its specs/: how long a packed list is.
