@@ -1,0 +1,47 @@
+-- `table::statement_section` meets its contract: the header says where the section starts and where the next one does.
+-- Assumes nothing.
+use borrow.Author.Needs.{needs}
+use Rattle.table.proofs.Lemmas.{statement-part}
+use Rattle.table.proofs.sections.statement_section.Statement.{statement}
+use Rattle.table.proofs.sections.statement_section.Tie as tie
+
+shared-slice-read-wide : tie.Need-shared-slice-read-wide
+shared-slice-read-wide c = search needs
+
+wide-requires : tie.Need-wide-requires
+wide-requires c κs = search needs
+
+shared-slice-read-wide-2 : tie.Need-shared-slice-read-wide-2
+shared-slice-read-wide-2 c = search needs
+
+wide-requires-2 : tie.Need-wide-requires-2
+wide-requires-2 c κs = search needs
+
+mul-result : tie.Need-mul-result
+mul-result c = search needs
+
+sub-result : tie.Need-sub-result
+sub-result c = search needs
+
+part-result-start : tie.Need-part-result-start
+part-result-start c = search needs
+
+part-result-end : tie.Need-part-result-end
+part-result-end c = search needs
+
+returns : tie.Need-returns
+returns c = statement-part _ (c .before .before .before .before .before .before .pre) _ _ (c .before .before .before .wide .ensures) (c .before .wide2 .ensures)
+
+pub statement-section-spec : {M : Type 1} → statement M
+statement-section-spec =
+    tie.close
+    (tie.spec
+    shared-slice-read-wide
+    wide-requires
+    shared-slice-read-wide-2
+    wide-requires-2
+    mul-result
+    sub-result
+    part-result-start
+    part-result-end
+    returns)
