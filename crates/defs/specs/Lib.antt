@@ -17,6 +17,7 @@ pub mod Decode
 -- Laws that follow from them: what a proof of code cites. First those on tests, lists and sums, which know nothing of tables.
 pub mod Laws
 pub mod Checked
+pub mod Sections
 pub mod DistanceLaws
 pub mod ChoiceLaws
 pub mod SortLaws
