@@ -1,5 +1,5 @@
 -- What a table that is not refused gives, one named fact each: its header, sections, statements, hypothesis references, entries, theorem and QED.
-use mathlib.Core.Path.{_≡_, ap, _∙_}
+use mathlib.Core.Path.{_≡_}
 use mathlib.Core.Logic.{_⊎_, inl, inr}
 use mir.Facts.{and-yes, or-yes}
 use Prim.Native.Nat.{zero, suc, _+_, _*_, ℕ, _≤_, _<_}
@@ -13,8 +13,7 @@ use native.Mathlib.Decide.{ℕ-discrete}
 use Rattle.laws.specs.Tools.{sumBelow, all, allOf, allBelow, someBelow, same, repeats}
 use Rattle.laws.specs.Lists.{all-join, passed, all-member, part-length, part-at, or-no, T-of, eqb-yes}
 use Rattle.laws.specs.Below.{allBelow-at, someBelow-at, each}
-use Rattle.laws.specs.Sums.{sum-mono}
-use Rattle.defs.specs.Table.{word, headerSize, statements, references, entries, childRefs, maxStatements, maxReferences, maxEntries, maxChildRefs, maxLabelLength, stmtSize, entrySize, theorem, qed, hypsFrom, entriesFrom, childrenFrom, wholeLength, statementWords, hypWords, entryWords, childWords, kindIn, labelIn, hypsIn, kind, labelStart, labelLength, hypStart, hypCount, label, hyps, hypRef, entryStmt, childStart, childCount, children}
+use Rattle.defs.specs.Table.{word, headerSize, statements, references, entries, childRefs, maxStatements, maxReferences, maxEntries, maxChildRefs, maxLabelLength, stmtSize, entrySize, theorem, qed, hypsFrom, entriesFrom, childrenFrom, wholeLength, statementWords, hypWords, entryWords, childWords, labelIn, hypsIn, kind, labelStart, labelLength, hypStart, hypCount, label, hyps, hypRef, entryStmt, childStart, childCount, children}
 use Rattle.defs.specs.Table.{childrenIn}
 use Rattle.defs.specs.Check.{tableRefusal, headerRules, statementRules, statementsRules, labelByte, labelWrong, labelAgain, referenceOk, hypsRepeat, entryRules, entriesRules, childrenBelow, goalRules, bad1, bad2, bad3, bad4, bad5, bad6, bad7}
 use Rattle.defs.specs.Graph.{graphIn, graphOf}

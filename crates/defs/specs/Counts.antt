@@ -62,7 +62,7 @@ Way g (suc k) q e = (p : ℕ) × Way g k q p × T (member e (g .kids p))
 unfoldable pub IsDistance : Graph → ℕ → ℕ → ℕ → Type 0
 IsDistance g q e d = (Way g d q e × ((k : ℕ) → k < d → ¬ Way g k q e)) ⊎ ((d ≡ unreached) × ((k : ℕ) → ¬ Way g k q e))
 
--- the law to be proved: for children below their parents, and at most 65535 entries, the pass gives the distance
+-- the law (proved in module DistanceLaws): for children below their parents, and at most 65535 entries, the pass gives the distance
 unfoldable pub DistanceLaw : Type 0
 DistanceLaw =
     (g : Graph) (n q e : ℕ) → ((p c : ℕ) → p < n → T (member c (g .kids p)) → c < p) → n ≤ unreached → q < n → e < n

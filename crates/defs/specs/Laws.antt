@@ -1,17 +1,15 @@
--- Laws of tests and sums below a number, of step lists, and of walks at any depth: what loops and recursions of code ask for.
-use mathlib.Core.Path.{_≡_, refl, sym, ap, ap₂, _∙_, subst}
-use Prim.Native.Nat.{ℕ, zero, suc, _+_, _*_, _≤_, _<_}
-use native.Mathlib.Decide.{decLt, ℕ-discrete}
+-- A table that is not refused passes each test; step lists as words; walks at any depth: what loops and recursions of code ask for.
+use mathlib.Core.Path.{_≡_, refl, sym, ap, ap₂, _∙_}
+use Prim.Native.Nat.{ℕ, zero, suc, _+_, _*_, _<_}
 use native.Mathlib.Nat.{not-suc-le-zero, add-zero, add-suc, suc-add, suc-ne-zero}
 use native.Mathlib.Numerals.{add-one}
 use native.Mathlib.Omega.{arith}
-use mathlib.Core.Bool.{Bool, true, false, _&&_, _||_}
+use mathlib.Core.Bool.{Bool, true, false}
 use mathlib.Core.List.{List, [], _∷_, _++_, map, append-assoc}
 use lib.ListN.{length, length-append}
 use lib.Dec.{T, ltb, ltb→lt, eqb}
-use mir.Facts.{and-yes, yes-and}
-use Rattle.laws.specs.Lists.{boole, clash}
-use Rattle.laws.specs.Tools.{pick, total, all, allOf, allBelow, someBelow, sumBelow, firstFrom}
+use mir.Facts.{and-yes}
+use Rattle.laws.specs.Tools.{pick, total, all}
 use Rattle.defs.specs.Check.{firstOf, tableRefusal, bad1, bad2, bad3, bad4, bad5, bad6, bad7}
 use Rattle.defs.specs.Graph.{Graph, Tree, Trees, moreTrees, node, treesBy, treeWithin}
 use Rattle.defs.specs.Steps.{Step, stepSize, flat, stepWords, listChildren, normalWithin, normalSteps, normalSize, normalCount, parentWord, indexWord, NormalCountLaw, Walk, markOf, eachChild, finish, refer, visit}

@@ -1,16 +1,15 @@
 -- What an answer is once its number is known, and the number of a table that is refused: what the returns of a writer ask for.
-use mathlib.Core.Path.{_≡_, refl, sym, ap, ap₂, _∙_}
+use mathlib.Core.Path.{_≡_, refl, ap₂}
 use mathlib.Core.Logic.{_≢_}
 use Prim.Native.Nat.{ℕ, zero, suc, _≤_}
 use native.Mathlib.Omega.{arith}
-use mathlib.Core.Bool.{Bool, true, false, _&&_, _||_}
+use mathlib.Core.Bool.{Bool, true, false}
 use mathlib.Core.List.{List, [], _∷_, map}
 use lib.ListN.{length}
-use lib.Dec.{eqb, leb}
 use Rattle.laws.specs.Tools.{pick, over, zeroed}
-use Rattle.laws.specs.Lists.{boole, eqb-no, leb-yes}
-use Rattle.defs.specs.Check.{Test, firstOf, orElse, tableRefusal, bad1, bad2, bad3, bad4, bad5, bad6, bad7}
-use Rattle.defs.specs.Outcome.{Outcome, lengthAfter, outAfter, isEarly, workAfter, oneOutput, twoOutputs}
+use Rattle.laws.specs.Lists.{eqb-no, leb-yes}
+use Rattle.defs.specs.Check.{firstOf, orElse, tableRefusal, bad1, bad2, bad3, bad4, bad5, bad6, bad7}
+use Rattle.defs.specs.Outcome.{lengthAfter, outAfter, isEarly, workAfter, oneOutput, twoOutputs}
 
 -- ---- a table that is refused
 

@@ -2,11 +2,11 @@
 use mathlib.Core.Path.{_≡_, refl, _∙_}
 use Prim.Native.Nat.{ℕ, zero, suc, _+_, _-_, _/_, _≤_, _<_}
 use native.Mathlib.Omega.{arith}
-use mathlib.Core.Bool.{Bool, true, false, _&&_}
+use mathlib.Core.Bool.{Bool, true, false}
 use mathlib.Core.List.{List, [], _∷_, _++_}
 use lib.ListN.{length, getD, set, replicate, length-set, length-replicate}
 use lib.Seq.{getD-set-other}
-use lib.Dec.{eqb, ltb, eqb→eq, eqb·zero-suc}
+use lib.Dec.{eqb, eqb→eq, eqb·zero-suc}
 use Rattle.laws.specs.Tools.{pick, range, keep, count}
 use Rattle.defs.specs.Table.{maxWord, maxStatements, maxEntries, maxChildRefs, statements, entries, childRefs, qed, labelLength, childCount, children}
 use Rattle.defs.specs.Check.{tableRefusal}

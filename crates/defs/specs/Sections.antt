@@ -1,12 +1,12 @@
 -- What the sections of a table that is not refused give the functions that are lent them: each record stands inside its section.
-use mathlib.Core.Path.{_≡_, sym, ap, _∙_}
+use mathlib.Core.Path.{_≡_}
 use mathlib.Core.Logic.{_⊎_}
 use Prim.Native.Nat.{ℕ, _+_, _*_, _≤_, _<_}
 use native.Mathlib.Omega.{arith}
 use mathlib.Core.List.{List}
 use lib.ListN.{length, getD}
 use Rattle.laws.specs.Lists.{part-at, all-below, all-at}
-use Rattle.defs.specs.Table.{word, maxStatements, maxReferences, maxEntries, maxChildRefs, maxLabelLength, stmtSize, entrySize, statements, references, entries, childRefs, statementWords, hypWords, entryWords, childWords, kindIn, labelStartIn, labelLengthIn, hypStartIn, hypCountIn, entryStmtIn, childStartIn, childCountIn, childrenIn}
+use Rattle.defs.specs.Table.{word, maxStatements, maxReferences, maxEntries, maxChildRefs, maxLabelLength, stmtSize, entrySize, statements, entries, statementWords, hypWords, entryWords, childWords, kindIn, labelStartIn, labelLengthIn, hypStartIn, hypCountIn, entryStmtIn, childStartIn, childCountIn, childrenIn}
 use Rattle.defs.specs.Check.{tableRefusal}
 use Rattle.defs.specs.Graph.{graphIn, graphOf}
 use Rattle.defs.specs.Laws.{good, Falls}

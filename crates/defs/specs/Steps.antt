@@ -118,6 +118,6 @@ normalSize g (suc depth) e = suc (total (map (λ c. normalSize g depth c) (g .ki
 unfoldable pub normalCount : Graph → ℕ → ℕ
 normalCount g q = normalSize g (suc q) q
 
--- the law to be proved: that is its length
+-- the law (proved in module Laws): that is its length
 unfoldable pub NormalCountLaw : Type 0
 NormalCountLaw = (g : Graph) (q : ℕ) (explicit : Bool) → length (normalSteps g q explicit) ≡ normalCount g q

@@ -1,6 +1,6 @@
 -- Tests, sums and first places below a number: what a counting loop asks for. Nothing here is about proofs or tables.
-use mathlib.Core.Path.{_≡_, refl, sym, ap, ap₂, _∙_, subst}
-use Prim.Native.Nat.{ℕ, zero, suc, _+_, _*_, _≤_, _<_}
+use mathlib.Core.Path.{_≡_, refl, sym, ap, _∙_, subst}
+use Prim.Native.Nat.{ℕ, zero, suc, _+_, _≤_, _<_}
 use native.Mathlib.Decide.{decLt, ℕ-discrete}
 use native.Mathlib.Nat.{not-suc-le-zero}
 use native.Mathlib.Numerals.{add-one}
@@ -10,7 +10,7 @@ use mathlib.Core.List.{List, [], _∷_}
 use lib.Dec.{T}
 use mir.Facts.{and-yes, yes-and}
 use Rattle.laws.specs.Lists.{boole, clash}
-use Rattle.laws.specs.Tools.{pick, allOf, allBelow, someBelow, sumBelow, firstFrom}
+use Rattle.laws.specs.Tools.{allOf, allBelow, someBelow, sumBelow, firstFrom}
 
 -- ---- tests
 

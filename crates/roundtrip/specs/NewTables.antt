@@ -1,18 +1,18 @@
 -- The new table: a table's statements with the words of a store. Its sections are the old ones and the store's words,
 -- so that tests 2 to 4 are those of the old table, and tests 5 and 6 those of the store.
 use mathlib.Core.Path.{_≡_, refl, sym, ap, _∙_}
-use Prim.Native.Nat.{ℕ, zero, suc, _+_, _-_, _*_, _/_, _≤_, _<_}
+use Prim.Native.Nat.{ℕ, zero, suc, _+_, _*_, _/_, _≤_, _<_}
 use native.Mathlib.Omega.{arith}
 use mathlib.Core.Bool.{Bool, false}
 use mathlib.Core.List.{List, [], _∷_, _++_, append-assoc, append-nil}
-use lib.ListN.{length, getD, take, drop, length-append}
+use lib.ListN.{length, getD, take, length-append}
 use lib.Seq.{take-at, drop-at}
 use lib.Dec.{T}
 use Rattle.laws.specs.Tools.{part, allOf, allBelow, sumBelow}
 use Rattle.laws.specs.Lists.{boole, found, all-snoc, all-at, below-all, of-T, not-no, eqb-yes, leb-yes, All}
 use Rattle.laws.specs.Below.{allBelow-all}
 use Rattle.laws.specs.Sums.{sum-eq}
-use Rattle.defs.specs.Table.{headerSize, maxEntries, maxChildRefs, stmtSize, entrySize, statements, references, entries, childRefs, theorem, qed, hypsFrom, entriesFrom, statementWords, hypWords, entryWords, childWords, entryStmtIn, childStartIn, childCountIn, childrenIn, kind, hypCount}
+use Rattle.defs.specs.Table.{headerSize, maxEntries, maxChildRefs, stmtSize, entrySize, statements, references, entries, childRefs, theorem, qed, hypsFrom, entriesFrom, statementWords, hypWords, entryWords, childWords, entryStmtIn, childStartIn, childCountIn, kind, hypCount}
 use Rattle.defs.specs.Check.{tableRefusal, firstOf, headerRules, entryRules, entriesRules, childrenBelow, goalRules, bad1, bad2, bad3, bad4, bad5, bad6, bad7}
 use Rattle.defs.specs.Graph.{graphIn, graphOf}
 use Rattle.defs.specs.Laws.{good}

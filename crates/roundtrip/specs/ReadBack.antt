@@ -5,7 +5,7 @@ use native.Mathlib.Omega.{arith}
 use mathlib.Core.Bool.{Bool, false}
 use mathlib.Core.List.{List, [], _∷_, append-nil}
 use lib.ListN.{length}
-use Rattle.defs.specs.Table.{entrySize, entries, childRefs, qed, hypCount}
+use Rattle.defs.specs.Table.{entries, childRefs, qed, hypCount}
 use Rattle.defs.specs.Check.{tableRefusal, firstOf, orElse}
 use Rattle.defs.specs.Graph.{graphOf, graphIn, treeOf}
 use Rattle.defs.specs.Graph as G
