@@ -1,7 +1,8 @@
--- Functions on numbers and lists, and facts about them: lists, tests and sums below a number, counts, sorting. No table is spoken of.
+-- Functions on numbers and lists, and facts about them: lists, tests and sums below a number, counts, sorting, words put into a slice. No table is spoken of.
 pub mod Tools
 pub mod Lists
 pub mod Below
 pub mod Sums
 pub mod Counting
 pub mod Sorting
+pub mod Puts

@@ -1,0 +1,4 @@
+-- What the contracts of this crate cite, beside the definitions of crate defs.
+pub mod Most
+pub mod Ranges
+pub mod Numbers
