@@ -26,7 +26,7 @@ bad10 w = mixed (map (kind w) (mandatory w))
 unfoldable pub bad11 : List ℕ → Bool
 bad11 w =
     someBelow
-    (λ e. reachable (graphOf w) (entries w) (qed w) e && eqb (kind w (entryStmt w e)) 2 && not (member (entryStmt w e) (mandatory w)))
+    (λ e. reachable (graphOf w) (entries w) (qed w) e && (eqb (kind w (entryStmt w e)) 2 && not (member (entryStmt w e) (mandatory w))))
     (entries w)
 
 -- 12: a label to be listed longer than line width minus indent

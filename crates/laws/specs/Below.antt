@@ -9,7 +9,7 @@ use mathlib.Core.Bool.{Bool, true, false, _&&_, _||_}
 use mathlib.Core.List.{List, [], _∷_}
 use lib.Dec.{T}
 use mir.Facts.{and-yes, yes-and}
-use Rattle.laws.specs.Lists.{boole, clash}
+use Rattle.laws.specs.Lists.{boole, clash, and-false, or-true}
 use Rattle.laws.specs.Tools.{allOf, allBelow, someBelow, sumBelow, firstFrom}
 
 -- ---- tests
@@ -45,14 +45,6 @@ someBelow-next test k = ap (someBelow test) (add-one k)
 
 the-last : (k n : ℕ) → ¬ (k < n) → k < suc n → k ≡ n
 the-last k n l h = omega arith
-
-and-false : (a : Bool) → (a && false) ≡ false
-and-false true = refl
-and-false false = refl
-
-or-true : (a : Bool) → (a || true) ≡ true
-or-true true = refl
-or-true false = refl
 
 -- one failure below n decides, wherever it is found: what a loop that leaves early asks for
 pub allBelow-fails : (test : ℕ → Bool) (k n : ℕ) → k < n → test k ≡ false → allBelow test n ≡ false

@@ -2,13 +2,13 @@
 use mathlib.Core.Path.{_≡_, refl, sym, ap, ap₂, _∙_}
 use Prim.Native.Nat.{ℕ, zero, suc, _+_, _*_, _≤_, _<_, min}
 use native.Mathlib.Omega.{arith}
-use mathlib.Core.Bool.{Bool, true, false, not}
+use mathlib.Core.Bool.{Bool, true, false, not, _&&_, _||_}
 use mathlib.Core.List.{List, [], _∷_, _++_, map}
 use lib.ListN.{length, getD, length-map}
 use lib.Seq.{ext-getD}
 use lib.Dec.{eqb}
 use Rattle.laws.specs.Tools.{pick, sumBelow, range, any, keep, member, repeats, count, addNew, firsts, insertBy, sortBy}
-use Rattle.laws.specs.Lists.{or-no, boole, T-of, no-T, clash, All, all-getD, getD-map, range-length, range-at}
+use Rattle.laws.specs.Lists.{or-no, and-false, and-true, boole, T-of, no-T, clash, All, all-getD, getD-map, range-length, range-at}
 use Rattle.laws.specs.Sums.{sum-le, sum-one, tot, bit, bit-cases, count-append, length-tot, sum-eq, tot-sum, all-count, count-all, member-count, count-no, count-self, count-places}
 
 -- ---- sorting moves, and adds or drops nothing
@@ -103,6 +103,39 @@ none-of test [] x e h = absurd (omega arith)
 none-of test (y ∷ ys) x e h =
     let p = or-no (test y) (any test ys) e in
     bit-cases x y (λ q h1. ap test q ∙ p .0) (λ q h0. none-of test ys x (p .1) (omega arith))
+
+-- a test holds of some member exactly where one is found of which it holds
+pub some-is : (test : ℕ → Bool) (xs : List ℕ) (x : ℕ) → 1 ≤ count x xs → test x ≡ true → any test xs ≡ true
+some-is test xs x h t = boole (any test xs) (λ e. e) (λ e. clash (test x) t (none-of test xs x e h))
+
+pub some-of : (test : ℕ → Bool) (xs : List ℕ) → any test xs ≡ true → (x : ℕ) × (1 ≤ count x xs) × (test x ≡ true)
+unfolding any
+some-of test [] e = clash false e refl
+some-of test (x ∷ xs) e =
+    boole (test x)
+    (λ h. (x, count-self x xs, h))
+    (λ h. let r = some-of test xs (rw h at e) in (r .0, omega (arith, r .1), r .2))
+
+-- so two lists with the same members have the same answer
+pub any-same : (test : ℕ → Bool) (xs ys : List ℕ) → ((x : ℕ) → 1 ≤ count x xs → 1 ≤ count x ys) → ((x : ℕ) → 1 ≤ count x ys → 1 ≤ count x xs) → any test xs ≡ any test ys
+any-same test xs ys to from =
+    boole (any test xs)
+    (λ e. let r = some-of test xs e in e ∙ sym (some-is test ys (r .0) (to (r .0) (r .1)) (r .2)))
+    (λ e. e ∙ sym (none-is test ys (λ x h. none-of test xs x e (from x h))))
+
+pub any-map : (test : ℕ → Bool) (f : ℕ → ℕ) (xs : List ℕ) → any test (map f xs) ≡ any (λ x. test (f x)) xs
+unfolding any
+any-map test f [] = refl
+any-map test f (x ∷ xs) = ap (λ (t : Bool). test (f x) || t) (any-map test f xs)
+
+-- a test of the members that are kept
+pub any-keep : (test kept : ℕ → Bool) (xs : List ℕ) → any test (keep kept xs) ≡ any (λ x. test x && kept x) xs
+unfolding any keep
+any-keep test kept [] = refl
+any-keep test kept (x ∷ xs) =
+    boole (kept x)
+    (λ h. rw h (ap₂ (λ (s t : Bool). s || t) (sym (and-true (test x))) (any-keep test kept xs)))
+    (λ h. rw (h, and-false (test x)) (any-keep test kept xs))
 
 pub none-at : (test : ℕ → Bool) (xs : List ℕ) (i : ℕ) → any test xs ≡ false → i < length xs → test (getD xs i 0) ≡ false
 unfolding any

@@ -3,7 +3,7 @@ use mathlib.Core.Path.{_≡_, refl, sym, ap, ap₂, _∙_, subst}
 use Prim.Native.Nat.{ℕ, zero, suc, _+_, _≤_, _<_}
 use native.Mathlib.Omega.{arith}
 use native.Mathlib.Decide.{decLt, ℕ-discrete}
-use mathlib.Core.Bool.{Bool, true, false, not, _||_}
+use mathlib.Core.Bool.{Bool, true, false, not, _&&_, _||_}
 use mathlib.Core.List.{List, [], _∷_, _++_, map}
 use native.Mathlib.Nat.{not-suc-le-zero, le-of-suc-le-suc}
 use lib.ListN.{length, getD, set, take, drop, replicate, length-append, length-drop, List·getD-append, List·getD-eq-default}
@@ -43,6 +43,18 @@ or-left false b t = absurd t
 pub or-right : (a b : Bool) → T b → T (a || b)
 or-right true b t = tt
 or-right false b t = t
+
+pub or-true : (a : Bool) → (a || true) ≡ true
+or-true true = refl
+or-true false = refl
+
+pub and-false : (a : Bool) → (a && false) ≡ false
+and-false true = refl
+and-false false = refl
+
+pub and-true : (a : Bool) → (a && true) ≡ a
+and-true true = refl
+and-true false = refl
 
 -- neither holds where one of the two must not
 pub or-no : (a b : Bool) → (a || b) ≡ false → (a ≡ false) × (b ≡ false)
@@ -170,6 +182,15 @@ all-keep P test (x ∷ xs) a = boole (test x) (λ h. rw h (a .0, all-keep P test
 pub all-image {ℓ} : {A B : Type ℓ} (P : B → Type 0) (f : A → B) (xs : List A) → All (λ x. P (f x)) xs → All P (map f xs)
 all-image P f [] a = tt
 all-image P f (x ∷ xs) a = (a .0, all-image P f xs (a .1))
+
+pub map-append {ℓ κ} : {A : Type ℓ} {B : Type κ} (f : A → B) (xs ys : List A) → map f (xs ++ ys) ≡ map f xs ++ map f ys
+map-append f [] ys = refl
+map-append f (x ∷ xs) ys = ap (λ l. f x ∷ l) (map-append f xs ys)
+
+pub keep-append : {A : Type 0} (test : A → Bool) (xs ys : List A) → keep test (xs ++ ys) ≡ keep test xs ++ keep test ys
+unfolding keep
+keep-append test [] ys = refl
+keep-append test (x ∷ xs) ys = boole (test x) (λ h. rw h (ap (λ l. x ∷ l) (keep-append test xs ys))) (λ h. rw h (keep-append test xs ys))
 
 pub map-snoc {ℓ κ} : {A : Type ℓ} {B : Type κ} (f : A → B) (xs : List A) (e : A) → map f (xs ++ (e ∷ [])) ≡ map f xs ++ (f e ∷ [])
 map-snoc f [] e = refl

@@ -19,14 +19,17 @@ exps pol nil mk = []
 exps pol (node e c b) mk = pick (marked e mk) (exps pol b mk) (exps pol c mk ++ e ∷ exps pol b (mark pol e (marks pol c mk)))
 
 module _ (pol : ℕ → Bool) (e : ℕ) (c b : Forest) (mk : List ℕ) where
-  exps-back : marked e mk ≡ true → exps pol (node e c b) mk ≡ exps pol b mk
+  pub exps-back : marked e mk ≡ true → exps pol (node e c b) mk ≡ exps pol b mk
   unfolding exps
   exps-back h = rw h
 
+  pub exps-list : marked e mk ≡ false → exps pol (node e c b) mk ≡ exps pol c mk ++ e ∷ exps pol b (mark pol e (marks pol c mk))
+  unfolding exps
+  exps-list h = rw h
+
   exps-open : marked e mk ≡ false → (w : ℕ → ℕ) → tot w (exps pol (node e c b) mk)
       ≡ tot w (exps pol c mk) + (w e + tot w (exps pol b (mark pol e (marks pol c mk))))
-  unfolding exps
-  exps-open h w = rw h (tot-append w (exps pol c mk) (e ∷ exps pol b (mark pol e (marks pol c mk))))
+  exps-open h w = ap (tot w) (exps-list h) ∙ tot-append w (exps pol c mk) (e ∷ exps pol b (mark pol e (marks pol c mk)))
 
 module _ (pol : ℕ → Bool) (want : ℕ → ℕ) (kids : ℕ → List ℕ) (low : (e : ℕ) → All (λ k. k < e) (kids e)) where
   -- each step is a root, or a child of an entry gone into
@@ -160,7 +163,7 @@ module _ (want : ℕ → ℕ) (kids : ℕ → List ℕ) (low : (e : ℕ) → All
   good : Good want kids t
   good = good-tree want kids low n fit q qn
 
-  abbrev X : List ℕ
+  abbrev pub X : List ℕ
   X = exps pol t []
 
   abbrev S : ℕ → ℕ
@@ -174,7 +177,7 @@ module _ (want : ℕ → ℕ) (kids : ℕ → List ℕ) (low : (e : ℕ) → All
       elim (decLt 0 (count x X)) [ yes y ↦ y | no y ↦ absurd (omega (arith, o .1 (omega (arith, o .0)))) ])
       (λ p. omega (arith, met-plain pol _ kids low x p t good [] refl .0))
 
-  X-low : All (λ x. x ≤ q) X
+  pub X-low : All (λ x. x ≤ q) X
   X-low = exps-all pol _ kids low (λ x. x ≤ q) (λ p k h l. omega (arith, count-all (λ y. y < p) (kids p) (low p) k l)) t good (omega arith, tt) []
 
   sum-X : (w : ℕ → ℕ) → tot w X ≡ sumBelow (λ x. count x X * w x) n
@@ -221,13 +224,13 @@ module _ (want : ℕ → ℕ) (kids : ℕ → List ℕ) (low : (e : ℕ) → All
   -- a test of which entries are reached: q is, so are the children of what is, and nothing else is
   module _ (reach : ℕ → Bool) (root : reach q ≡ true) (down : (p k : ℕ) → reach p ≡ true → 1 ≤ count k (kids p) → reach k ≡ true)
       (least : (M : ℕ → Type 0) → M q → ((p k : ℕ) → M p → 1 ≤ count k (kids p) → M k) → (x : ℕ) → x < n → reach x ≡ true → M x) where
-    reach-met : (x : ℕ) → x < n → reach x ≡ true → 1 ≤ count x X
+    pub reach-met : (x : ℕ) → x < n → reach x ≡ true → 1 ≤ count x X
     reach-met =
         least (λ x. 1 ≤ count x X)
         (met q (omega (arith, count-self q [])))
         (λ p k h l. met k (omega (arith, tot-ge (λ y. count k (kids y)) p X h)))
 
-    met-reach : (x : ℕ) → 1 ≤ count x X → reach x ≡ true
+    pub met-reach : (x : ℕ) → 1 ≤ count x X → reach x ≡ true
     met-reach = count-all (λ x. reach x ≡ true) X (exps-all pol _ kids low (λ x. reach x ≡ true) down t good (root, tt) [])
 
     once-each : (x : ℕ) → x < n → count x X * length (kids x) ≡ pick (reach x) (length (kids x)) 0

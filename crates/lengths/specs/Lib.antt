@@ -8,3 +8,5 @@ pub mod TableWalks
 -- Explicit lists are no longer; the room that code needs.
 pub mod Explicit
 pub mod Bound
+-- Which statements it lists.
+pub mod Reached
