@@ -6,7 +6,8 @@ use native.Mathlib.Numerals.{add-one}
 use native.Mathlib.Omega.{arith}
 use mathlib.Core.Bool.{Bool, true, false}
 use mathlib.Core.List.{List, [], _∷_, _++_, map, append-assoc}
-use lib.ListN.{length, length-append}
+use lib.ListN.{length, getD, length-append, List·getD-append}
+use lib.Seq.{getD-append-add}
 use lib.Dec.{T, ltb, ltb→lt, eqb}
 use mir.Facts.{and-yes}
 use Rattle.laws.specs.Tools.{pick, total, all}
@@ -53,6 +54,15 @@ pub flat-length : (ts : List Step) → length (flat ts) ≡ stepSize * length ts
 unfolding flat stepWords
 flat-length [] = refl
 flat-length (t ∷ ts) = omega (arith, flat-length ts)
+
+-- word j of step i
+pub flat-at : (ts : List Step) (d : Step) (i j : ℕ) → i < length ts → j < stepSize → getD (flat ts) (stepSize * i + j) 0 ≡ getD (stepWords (getD ts i d)) j 0
+unfolding flat stepWords
+flat-at [] d i j l m = absurd (omega arith)
+flat-at (t ∷ ts) d zero j l m = let e : stepSize * 0 + j ≡ j = omega arith in rw e (List·getD-append (stepWords t) (flat ts) 0 j m)
+flat-at (t ∷ ts) d (suc i) j l m =
+    let e : stepSize * suc i + j ≡ stepSize + (stepSize * i + j) = omega arith in
+    rw e (getD-append-add (stepWords t) (flat ts) (stepSize * i + j) 0 ∙ flat-at ts d i j (omega arith) m)
 
 -- the words of a step list hold that list
 pub steps-flat : (ts : List Step) → stepsIn (flat ts) ≡ ts

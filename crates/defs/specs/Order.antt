@@ -6,13 +6,13 @@ use lib.ListN.{length, getD, drop}
 use lib.Dec.{eqb, leb, ltb}
 use Rattle.laws.specs.Tools.{pick, range, keep, member, count, total, firsts, sortBy}
 use Rattle.defs.specs.Table.{kind, labelLength, mandatory}
-use Rattle.defs.specs.Steps.{Step, isNormal}
+use Rattle.defs.specs.Steps.{Step, normalStmts}
 
 -- ---- what is listed
 
 -- the statements of the normal steps that are not in the theorem's list, with repeats
 unfoldable pub used : List ℕ → List Step → List ℕ
-used w steps = keep (λ k. not (member k (mandatory w))) (map (λ (t : Step). t .stmt) (keep isNormal steps))
+used w steps = keep (λ k. not (member k (mandatory w))) (normalStmts steps)
 
 -- then stably non-assertions first; a statement's place here is its index
 unfoldable pub listed : List ℕ → List Step → List ℕ

@@ -5,7 +5,7 @@ use mathlib.Core.Bool.{Bool, _&&_}
 use mathlib.Core.List.{List, [], _∷_, _++_, map}
 use lib.ListN.{getD, set, replicate, length}
 use lib.Dec.{eqb, ltb}
-use Rattle.laws.specs.Tools.{pick, total}
+use Rattle.laws.specs.Tools.{pick, keep, total}
 use Rattle.defs.specs.Graph.{Graph}
 use Rattle.defs.specs.Counts.{parents}
 
@@ -31,6 +31,10 @@ flat (t ∷ ts) = stepWords t ++ flat ts
 
 abbrev pub isNormal : Step → Bool
 isNormal t = eqb (t .ref) 0
+
+-- the statements of the normal steps of a list, with repeats
+abbrev pub normalStmts : List Step → List ℕ
+normalStmts ts = map (λ (t : Step). t .stmt) (keep isNormal ts)
 
 -- a child's last two words under a parent of statement k, as its j-th hypothesis; 0 unless the list is explicit
 abbrev pub parentWord : Bool → ℕ → ℕ

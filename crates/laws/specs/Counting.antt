@@ -8,8 +8,8 @@ use lib.ListN.{length, getD, length-map}
 use lib.Seq.{ext-getD}
 use lib.Dec.{eqb}
 use Rattle.laws.specs.Tools.{pick, sumBelow, range, any, keep, member, repeats, count, addNew, firsts, insertBy, sortBy}
-use Rattle.laws.specs.Lists.{or-no, and-false, and-true, boole, T-of, no-T, clash, All, all-getD, getD-map, range-length, range-at}
-use Rattle.laws.specs.Sums.{sum-le, sum-one, tot, bit, bit-cases, count-append, length-tot, sum-eq, tot-sum, all-count, count-all, member-count, count-no, count-self, count-places}
+use Rattle.laws.specs.Lists.{of-T, or-no, and-false, and-true, boole, T-of, no-T, clash, All, all-getD, getD-map, range-length, range-at}
+use Rattle.laws.specs.Sums.{count-member, sum-le, sum-one, tot, bit, bit-cases, count-append, length-tot, sum-eq, tot-sum, all-count, count-all, member-count, count-no, count-self, count-places}
 
 -- ---- sorting moves, and adds or drops nothing
 
@@ -84,12 +84,43 @@ pub count-firsts : (x : ℕ) (xs : List ℕ) → count x (firsts xs) ≡ min 1 (
 unfolding firsts
 count-firsts x xs = count-new x [] xs (omega arith) ∙ omega arith
 
+-- one more: nothing new, or a new one at the end
+add-append : (seen xs ys : List ℕ) → addNew seen (xs ++ ys) ≡ addNew (addNew seen xs) ys
+unfolding addNew
+add-append seen [] ys = refl
+add-append seen (x ∷ xs) ys = add-append (pick (member x seen) seen (seen ++ x ∷ [])) xs ys
+
+firsts-snoc : (xs : List ℕ) (x : ℕ) → firsts (xs ++ (x ∷ [])) ≡ pick (member x (firsts xs)) (firsts xs) (firsts xs ++ (x ∷ []))
+unfolding firsts addNew
+firsts-snoc xs x = add-append [] xs (x ∷ [])
+
+pub firsts-known : (xs : List ℕ) (x : ℕ) → 1 ≤ count x xs → firsts (xs ++ (x ∷ [])) ≡ firsts xs
+firsts-known xs x h = firsts-snoc xs x ∙ rw (of-T (member x (firsts xs)) (count-member x (firsts xs) (omega (arith, count-firsts x xs))))
+
+pub firsts-new : (xs : List ℕ) (x : ℕ) → count x xs ≡ 0 → firsts (xs ++ (x ∷ [])) ≡ firsts xs ++ (x ∷ [])
+firsts-new xs x h =
+    firsts-snoc xs x
+    ∙ rw (no-T (member x (firsts xs)) (λ t. omega (arith, count-firsts x xs, member-count x (firsts xs) t)))
+
+-- what holds of all holds of those
+pub firsts-all : (P : ℕ → Type 0) (xs : List ℕ) → All P xs → All P (firsts xs)
+firsts-all P xs a = all-count P (firsts xs) (λ k h. count-all P xs a k (omega (arith, count-firsts k xs)))
+
 pub not-repeated : (xs : List ℕ) → ((x : ℕ) → count x xs ≤ 1) → repeats xs ≡ false
 unfolding repeats
 not-repeated [] h = refl
 not-repeated (x ∷ xs) h =
     rw (no-T (member x xs) (λ m. bit-cases x x (λ i h1. omega (arith, h x, member-count x xs m)) (λ i h0. absurd (i refl))))
     (not-repeated xs (λ y. omega (arith, h y)))
+
+pub repeated-no : (xs : List ℕ) → repeats xs ≡ false → (x : ℕ) → count x xs ≤ 1
+unfolding repeats
+repeated-no [] e x = omega arith
+repeated-no (y ∷ ys) e x =
+    let p = or-no (member y ys) (repeats ys) e in
+    bit-cases x y
+    (λ i h. omega (arith, ap (λ (z : ℕ). count z ys) i, count-no y ys (p .0)))
+    (λ i h. omega (arith, repeated-no ys (p .1) x))
 
 pub none-is : (test : ℕ → Bool) (xs : List ℕ) → ((x : ℕ) → 1 ≤ count x xs → test x ≡ false) → any test xs ≡ false
 unfolding any
@@ -156,6 +187,9 @@ pub once-below : (n : ℕ) (xs : List ℕ) → All (λ x. x < n) xs → ((x : �
 once-below n xs low once =
     let most : sumBelow (λ x. count x xs * 1) n ≤ sumBelow (λ x. 1) n = sum-le (λ x. count x xs * 1) (λ x. 1) n (λ x l. omega (arith, once x)) in
     omega (arith, length-tot xs, tot-sum (λ x. 1) n xs low, most, sum-one n)
+
+pub firsts-few : (n : ℕ) (xs : List ℕ) → All (λ x. x < n) xs → length (firsts xs) ≤ n
+firsts-few n xs low = once-below n (firsts xs) (firsts-all (λ x. x < n) xs low) (λ k. omega (arith, count-firsts k xs))
 
 tot-map : (w f : ℕ → ℕ) (xs : List ℕ) → tot w (map f xs) ≡ tot (λ x. w (f x)) xs
 tot-map w f [] = refl

@@ -14,7 +14,7 @@ use Rattle.laws.specs.Counting.{some-is, any-map, any-keep, any-same, none-is, 
 use Rattle.defs.specs.Table.{entries, qed, kind, mandatory, hypCount}
 use Rattle.defs.specs.Check.{tableRefusal}
 use Rattle.defs.specs.Graph.{graphIn, graphOf}
-use Rattle.defs.specs.Steps.{Step, isNormal}
+use Rattle.defs.specs.Steps.{Step, isNormal, normalStmts}
 use Rattle.defs.specs.Text.{packedOf}
 use Rattle.defs.specs.Order.{used, listed}
 use Rattle.defs.specs.Refusals.{bad11}
@@ -24,10 +24,6 @@ use Rattle.lengths.specs.Walks.{normStep, marked, mark, markNo, marks, p
 use Rattle.lengths.specs.Lengths.{exps, exps-back, exps-list, X, X-low, reach-met, met-reach, shared}
 use Rattle.lengths.specs.Tables.{kids, low, fit, reach, reach-root, reach-down, reach-least}
 use Rattle.lengths.specs.TableWalks.{tree, packed-is}
-
--- the statements of the normal steps of a list
-abbrev pub normalStmts : List Step → List ℕ
-normalStmts ts = map (λ (t : Step). t .stmt) (keep isNormal ts)
 
 stmts-append : (xs ys : List Step) → normalStmts (xs ++ ys) ≡ normalStmts xs ++ normalStmts ys
 stmts-append xs ys = ap (map (λ (t : Step). t .stmt)) (keep-append isNormal xs ys) ∙ map-append (λ (t : Step). t .stmt) (keep isNormal xs) (keep isNormal ys)

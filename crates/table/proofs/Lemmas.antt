@@ -9,7 +9,7 @@ use Rattle.laws.specs.Tools.{part}
 use Rattle.defs.specs.Table.{word, headerSize, stmtSize, entrySize, statements, references, entries, childRefs, hypsFrom, entriesFrom, childrenFrom, statementWords, hypWords, entryWords, childWords}
 use Rattle.defs.specs.Checked.{HeaderOk}
 
-between : (w : List ℕ) (from to start len : ℕ) → from ≡ start → to ≡ start + len → part from (to - from) w ≡ part start len w
+pub between : (w : List ℕ) (from to start len : ℕ) → from ≡ start → to ≡ start + len → part from (to - from) w ≡ part start len w
 between w from to start len e f = let long : to - from ≡ len = omega arith in rw (long, e)
 
 module _ (w : List ℕ) (ok : HeaderOk w) (from to : ℕ) where

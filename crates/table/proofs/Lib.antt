@@ -1,1 +1,1 @@
-mod Lemmas
+pub mod Lemmas

@@ -8,7 +8,13 @@ ghost use lib.ListN.{length};
 ghost use Rattle.defs.specs.Table.{word, kindIn, labelStartIn, labelLengthIn, hypStartIn, hypCountIn};
 ghost use Rattle.table.specs.Records.{StatementIn};
 
-// 0 assertion, 1 floating, 2 essential.
+// Kinds: 0 assertion, 1 floating, 2 essential.
+pub const ASSERTION: u32 = 0;
+
+pub const FLOATING: u32 = 1;
+
+pub const ESSENTIAL: u32 = 2;
+
 pub fn kind(statements: &[u32], k: StatementNo) -> u32
     requires { ⌜ StatementIn (now statements) (k .0) ⌝ }
     ensures { λ r. ⌜ r ≡ kindIn (now (statements .entry)) (k .0) ⌝ }
