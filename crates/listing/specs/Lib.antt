@@ -1,0 +1,5 @@
+pub mod Arrays
+pub mod Numbers
+pub mod Kinds
+pub mod Clear
+pub mod Listing
