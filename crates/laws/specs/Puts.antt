@@ -2,10 +2,11 @@
 use mathlib.Core.Path.{_≡_, refl, sym, ap, _∙_}
 use mathlib.Core.List.{List, [], _∷_, _++_, append-assoc, append-nil}
 use Prim.Native.Nat.{ℕ, suc, _+_, _<_, _≤_}
+use native.Mathlib.Decide.{decLt}
 use native.Mathlib.Numerals.{add-one}
 use native.Mathlib.Omega.{arith}
-use lib.ListN.{length, set, take, drop}
-use lib.Seq.{set-split, drop-at, drop-length, length-take-le}
+use lib.ListN.{length, set, take, drop, length-append, length-drop, take-append-drop}
+use lib.Seq.{set-split, take-at, drop-at, drop-length, drop-append-add, drop-drop, length-take-le}
 
 -- places from which a word's end is counted lie below this, 2 to the 62nd: so no end wraps
 abbrev pub farthest : ℕ
@@ -22,7 +23,16 @@ pub record Put (word : List ℕ) (at end : ℕ) (before after : List ℕ) : Type
   pub fits : end ≤ length before → after ≡ (take at before ++ word) ++ drop end before
   pub short : length before < end → after ≡ before
 
--- ---- laws
+-- ---- a text that grows by pieces, each stored where it fits
+
+-- the end is counted always; where all of the text fits, it stands from `at` to `end`, and all else is as it was before.
+-- `Put` says more of one piece that does not fit: nothing is changed then. Of two, the first may stand there
+pub record Grows (text : List ℕ) (at end : ℕ) (before after : List ℕ) : Type 0 where
+  pub ends : end ≡ at + length text
+  pub kept : length after ≡ length before
+  pub fits : end ≤ length before → after ≡ (take at before ++ text) ++ drop end before
+
+-- ---- laws of one word
 
 -- the word did not fit, and nothing was changed
 pub not-put : (word before : List ℕ) (at end : ℕ) → end ≡ at + length word → length before < end → Put word at end before before
@@ -43,3 +53,51 @@ placed-last word before after at b =
     let l : length (take at before) ≡ at = length-take-le at before (omega (arith, b .ends)) in
     let r : (take at before ++ word) ++ drop (length before) before ≡ take at before ++ word = rw (drop-length before) (append-nil (take at before ++ word)) in
     ap (λ (x : List ℕ). drop at x) (b .holds ∙ r) ∙ drop-at (take at before) word at l
+
+-- ---- laws of a text that grows
+
+-- a text that stands at the front grows by a piece put at its end
+pub grow : (text piece start now : List ℕ) (at end : ℕ) → at ≡ length text → end ≡ at + length piece → now ≡ text ++ drop at start
+    → (take at now ++ piece) ++ drop end now ≡ (text ++ piece) ++ drop end start
+grow text piece start now at end a e h =
+    let t : take at now ≡ text = ap (take at) h ∙ take-at text (drop at start) at (sym a) in
+    let d : drop end now ≡ drop end start =
+    ap (drop end) h
+    ∙ rw (e, a) (drop-append-add text (drop (length text) start) (length piece) ∙ drop-drop (length piece) (length text) start) in
+    rw (t, d)
+
+-- nothing yet, and one piece
+pub grows-none : (at : ℕ) (o : List ℕ) → Grows [] at at o o
+grows-none at o = record { ends = omega arith; kept = refl; fits = λ h. sym (rw append-nil (take-append-drop at o)) }
+
+pub grows-one : {piece before after : List ℕ} {at end : ℕ} → Put piece at end before after → Grows piece at end before after
+grows-one {piece} {before} {after} {at} {end} p =
+    record {
+      ends = p .ends;
+      kept = elim (decLt (length before) end) [
+        | yes h ↦ ap length (p .short h)
+        | no h ↦
+            let t : length (take at before) ≡ at = length-take-le at before (omega (arith, p .ends)) in
+            ap length (p .fits (omega arith))
+            ∙ omega (arith, p .ends, length-append (take at before ++ piece) (drop end before), length-append (take at before) piece, length-drop end before)
+      ];
+      fits = p .fits;
+    }
+
+-- one text after another; one piece more
+pub grows-then : {text piece before between after : List ℕ} {at mid end : ℕ} → Grows text at mid before between → Grows piece mid end between after
+    → Grows (text ++ piece) at end before after
+grows-then {text} {piece} {before} {between} {after} {at} {mid} {end} a b =
+    record {
+      ends = omega (arith, a .ends, b .ends, length-append text piece);
+      kept = b .kept ∙ a .kept;
+      fits = λ h.
+          let t : length (take at before) ≡ at = length-take-le at before (omega (arith, a .ends, b .ends)) in
+          b .fits (omega (arith, a .kept))
+          ∙ grow (take at before ++ text) piece before between mid end (omega (arith, a .ends, length-append (take at before) text)) (b .ends) (a .fits (omega (arith, b .ends)))
+          ∙ rw (append-assoc (take at before) text piece);
+    }
+
+pub grows-more : {text piece before between after : List ℕ} {at mid end : ℕ} → Grows text at mid before between → Put piece mid end between after
+    → Grows (text ++ piece) at end before after
+grows-more a p = grows-then a (grows-one p)
