@@ -98,7 +98,7 @@ ltb-no : (m n : ℕ) → n ≤ m → T (ltb m n) → ⊥
 ltb-no m n h t = let k = leb→le (suc m) n t in absurd (omega arith)
 
 -- what a number below the theorem's list, below both lists, and past both names
-named-thm : (thm labels : List ℕ) (v : ℕ) → v < length thm → stepNamed thm labels v ≡ record { ref = 0; mark = 0; stmt = getD thm v 0; parent = 0; index = 0 }
+pub named-thm : (thm labels : List ℕ) (v : ℕ) → v < length thm → stepNamed thm labels v ≡ record { ref = 0; mark = 0; stmt = getD thm v 0; parent = 0; index = 0 }
 unfolding stepNamed
 named-thm thm labels v h i =
     record {
@@ -109,7 +109,7 @@ named-thm thm labels v h i =
       index = 0;
     }
 
-named-label : (thm labels : List ℕ) (v : ℕ) → length thm ≤ v → v < length thm + length labels
+pub named-label : (thm labels : List ℕ) (v : ℕ) → length thm ≤ v → v < length thm + length labels
     → stepNamed thm labels v ≡ record { ref = 0; mark = 0; stmt = getD labels (v - length thm) 0; parent = 0; index = 0 }
 unfolding stepNamed
 named-label thm labels v h k i =
@@ -124,7 +124,7 @@ named-label thm labels v h k i =
       index = 0;
     }
 
-named-ref : (thm labels : List ℕ) (v : ℕ) → length thm + length labels ≤ v
+pub named-ref : (thm labels : List ℕ) (v : ℕ) → length thm + length labels ≤ v
     → stepNamed thm labels v ≡ record { ref = v - (length thm + length labels) + 1; mark = 0; stmt = 0; parent = 0; index = 0 }
 unfolding stepNamed
 named-ref thm labels v h i =

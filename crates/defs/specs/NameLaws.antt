@@ -1,28 +1,28 @@
 -- The names of marks: they grow, none is a label, every number that is skipped is one; so different marks have different names.
+-- A mark's name is at most s past its number, since of the numbers in a row at most s are labels.
 use mathlib.Core.Path.{_≡_, refl, sym, ap, _∙_}
 use mathlib.Core.Logic.{_≢_}
 use Prim.Native.Nat.{ℕ, zero, suc, _+_, _-_, _*_, _/_, _%_, _≤_, _<_}
 use native.Mathlib.Omega.{arith}
 use native.Mathlib.Decide.{decLt, ℕ-discrete}
-use mathlib.Core.Bool.{true, false, not}
+use mathlib.Core.Bool.{Bool, true, false, _||_}
 use mathlib.Core.List.{List, [], _∷_, _++_}
-use lib.ListN.{length, getD}
-use Rattle.laws.specs.Tools.{firstFrom, same, count}
-use Rattle.defs.specs.Table.{statements, label}
-use Rattle.defs.specs.Names.{digitsWithin, digits, isLabel, isFree, nameNumber, name}
-use Rattle.laws.specs.Lists.{boole, clash, T-of, All, same-is, leb-yes, leb-no}
-use Rattle.laws.specs.Sums.{count-places}
-use Rattle.laws.specs.Counting.{once-below}
-use Rattle.laws.specs.Below.{someBelow-yes, first-low, first-high, first-before, first-is}
+use borrow.Author.Tests.{not-true, not-false}
+use Rattle.laws.specs.Tools.{firstFrom, someBelow, sumBelow, same}
+use Rattle.defs.specs.Table.{statements, statementWords, labelIn}
+use Rattle.defs.specs.Names.{digitsWithin, digits, isLabelIn, isFreeIn, nameNumberIn, isLabel, nameNumber, name}
+use Rattle.laws.specs.Lists.{boole, clash, T-of, same-is, leb-yes, leb-no}
+use Rattle.laws.specs.Sums.{bit, sum-le, sum-eq, sum-zero, sum-one, sum-add, sum-once}
+use Rattle.laws.specs.Below.{first-low, first-high, first-before, first-is}
 
 -- ---- decimals are read back
 
 -- the number that digits stand for, behind those read so far
-pub value : ℕ → List ℕ → ℕ
+unfoldable pub value : ℕ → List ℕ → ℕ
 value before [] = before
 value before (d ∷ ds) = value (10 * before + (d - 48)) ds
 
-value-append : (before : ℕ) (xs ys : List ℕ) → value before (xs ++ ys) ≡ value (value before xs) ys
+pub value-append : (before : ℕ) (xs ys : List ℕ) → value before (xs ++ ys) ≡ value (value before xs) ys
 unfolding value
 value-append before [] ys = refl
 value-append before (x ∷ xs) ys = value-append (10 * before + (x - 48)) xs ys
@@ -48,105 +48,170 @@ digits-differ x y e = sym (value-digits x) ∙ ap (value 0) e ∙ value-digits y
 
 -- ---- there are only s labels to skip
 
-module _ (w b : List ℕ) where
-  not-free : (x : ℕ) → isFree w b x ≡ false → (k : ℕ) × (k < statements w) × (label w b k ≡ digits x)
-  unfolding isFree isLabel
-  not-free x e =
-      let r = someBelow-yes (λ k. same (label w b k) (digits x)) (statements w) (boole (isLabel w b (digits x)) (λ h. h) (λ h. clash (not (isLabel w b (digits x))) (rw h) e)) in
-      (r .0, r .1, same-is (label w b (r .0)) (digits x) (T-of (r .2)))
+bit-or : (x y : Bool) → bit (x || y) ≤ bit x + bit y
+bit-or true y = omega arith
+bit-or false y = omega arith
 
-  -- the statements whose labels are n numbers in a row
-  record Holders (start n : ℕ) : Type 0 where
-    ks : List ℕ
-    as-many : length ks ≡ n
-    low : All (λ k. k < statements w) ks
-    hold : (i : ℕ) → i < length ks → value 0 (label w b (getD ks i 0)) ≡ start + i
+-- of n numbers in a row at most one has these digits
+one-number : (text : List ℕ) (start n : ℕ) → sumBelow (λ y. bit (same text (digits (start + y)))) n ≤ 1
+one-number text start n =
+    sum-once (λ y. same text (digits (start + y))) n
+    (λ x y t u. omega (arith, digits-differ (start + x) (start + y) (sym (same-is text _ (T-of t)) ∙ same-is text _ (T-of u))))
 
-  holders : (start n : ℕ) → ((x : ℕ) → start ≤ x → x < start + n → isFree w b x ≡ false) → Holders start n
-  holders start zero h = record { ks = []; as-many = refl; low = tt; hold = λ i l. absurd (omega arith) }
-  holders start (suc n) h =
-      let k = not-free start (h start (omega arith) (omega arith)) in
-      let r = holders (suc start) n (λ x l m. h x (omega arith) (omega arith)) in
-      record {
-        ks = k .0 ∷ r .ks;
-        as-many = ap suc (r .as-many);
-        low = (k .1, r .low);
-        hold = held start (k .0) (r .ks) (ap (value 0) (k .2) ∙ value-digits start) (r .hold);
-      }
-    where
-      held : (start k : ℕ) (ks : List ℕ) → value 0 (label w b k) ≡ start → ((i : ℕ) → i < length ks → value 0 (label w b (getD ks i 0)) ≡ suc start + i)
-          → (i : ℕ) → i < length (k ∷ ks) → value 0 (label w b (getD (k ∷ ks) i 0)) ≡ start + i
-      held start k ks e h zero l = e ∙ omega arith
-      held start k ks e h (suc i) l = h i (omega arith) ∙ omega arith
+-- and at most s are labels
+few-labels : (ss b : List ℕ) (s start n : ℕ) → sumBelow (λ y. bit (isLabelIn ss b s (digits (start + y)))) n ≤ s
+unfolding isLabelIn someBelow
+few-labels ss b zero start n = omega (arith, sum-zero (λ y. 0) n (λ y l. refl))
+few-labels ss b (suc s) start n =
+    let before : ℕ → ℕ = λ y. bit (isLabelIn ss b s (digits (start + y))) in
+    let last : ℕ → Bool = λ y. same (labelIn ss b s) (digits (start + y)) in
+    omega (
+      arith,
+      few-labels ss b s start n,
+      one-number (labelIn ss b s) start n,
+      sum-add before (λ y. bit (last y)) n,
+      sum-le (λ y. bit (isLabelIn ss b (suc s) (digits (start + y)))) (λ y. before y + bit (last y)) n (λ y l. bit-or (isLabelIn ss b s (digits (start + y))) (last y)),
+    )
 
-  crowded : (start n : ℕ) → ((x : ℕ) → start ≤ x → x < start + n → isFree w b x ≡ false) → n ≤ statements w
+module _ (ss b : List ℕ) (s : ℕ) where
+  pub free-no-label : (x : ℕ) → isFreeIn ss b s x ≡ true → isLabelIn ss b s (digits x) ≡ false
+  unfolding isFreeIn
+  free-no-label x e = not-true (isLabelIn ss b s (digits x)) e
+
+  pub not-free-label : (x : ℕ) → isFreeIn ss b s x ≡ false → isLabelIn ss b s (digits x) ≡ true
+  unfolding isFreeIn
+  not-free-label x e = not-false (isLabelIn ss b s (digits x)) e
+
+  crowded : (start n : ℕ) → ((x : ℕ) → start ≤ x → x < start + n → isFreeIn ss b s x ≡ false) → n ≤ s
   crowded start n h =
-      let r = holders start n h in
-      let once : (x : ℕ) → count x (r .ks) ≤ 1 = count-places (λ k. value 0 (label w b k)) start (r .ks) (r .hold) in
-      omega (arith, r .as-many, once-below (statements w) (r .ks) (r .low) once)
+      let all : sumBelow (λ y. bit (isLabelIn ss b s (digits (start + y)))) n ≡ sumBelow (λ y. 1) n =
+      sum-eq _ _ n (λ y l. ap bit (not-free-label (start + y) (h (start + y) (omega arith) (omega arith)))) in
+      omega (arith, few-labels ss b s start n, sum-one n)
 
   -- ---- the names
 
   -- each is past the one before
-  pub name-grows : (m : ℕ) → nameNumber w b m < nameNumber w b (suc m)
-  unfolding nameNumber
-  name-grows m = first-low (isFree w b) (suc (nameNumber w b m)) (statements w)
+  pub name-grows : (m : ℕ) → nameNumberIn ss b s m < nameNumberIn ss b s (suc m)
+  unfolding nameNumberIn
+  name-grows m = first-low (isFreeIn ss b s) (suc (nameNumberIn ss b s m)) s
 
-  pub names-grow : (m k : ℕ) → m < k → nameNumber w b m < nameNumber w b k
+  pub names-grow : (m k : ℕ) → m < k → nameNumberIn ss b s m < nameNumberIn ss b s k
   names-grow m zero l = absurd (omega arith)
   names-grow m (suc k) l =
       elim (decLt m k) [
         | yes h ↦ omega (arith, names-grow m k h, name-grows k)
-        | no h ↦ (let e : m ≡ k = omega arith in omega (arith, ap (nameNumber w b) e, name-grows k))
+        | no h ↦ (let e : m ≡ k = omega arith in omega (arith, ap (nameNumberIn ss b s) e, name-grows k))
       ]
 
   -- what lies between two names is a label
-  pub name-skips : (m x : ℕ) → nameNumber w b m < x → x < nameNumber w b (suc m) → isFree w b x ≡ false
-  unfolding nameNumber
-  name-skips m x l h = first-before (isFree w b) (suc (nameNumber w b m)) (statements w) x l h
+  pub name-skips : (m x : ℕ) → nameNumberIn ss b s m < x → x < nameNumberIn ss b s (suc m) → isFreeIn ss b s x ≡ false
+  unfolding nameNumberIn
+  name-skips m x l h = first-before (isFreeIn ss b s) (suc (nameNumberIn ss b s m)) s x l h
 
   -- no name is a label
-  pub name-free : (m : ℕ) → isFree w b (nameNumber w b (suc m)) ≡ true
-  unfolding nameNumber
+  pub name-free : (m : ℕ) → isFreeIn ss b s (nameNumberIn ss b s (suc m)) ≡ true
+  unfolding nameNumberIn
   name-free m =
-      let start : ℕ = suc (nameNumber w b m) in
-      let s : ℕ = statements w in
-      let r : ℕ = firstFrom (isFree w b) start s in
-      boole (isFree w b r) (λ h. h)
+      let start : ℕ = suc (nameNumberIn ss b s m) in
+      let r : ℕ = firstFrom (isFreeIn ss b s) start s in
+      boole (isFreeIn ss b s r) (λ h. h)
       (λ h. elim (decLt r (start + s)) [
-        | yes l ↦ first-is (isFree w b) start s l
+        | yes l ↦ first-is (isFreeIn ss b s) start s l
         | no l ↦ absurd (omega (
           arith,
           crowded start (suc s) (λ x y z. elim (ℕ-discrete x r) [
-            | yes e ↦ ap (isFree w b) e ∙ h
-            | no e ↦ first-before (isFree w b) start s x y (omega (arith, first-high (isFree w b) start s))
+            | yes e ↦ ap (isFreeIn ss b s) e ∙ h
+            | no e ↦ first-before (isFreeIn ss b s) start s x y (omega (arith, first-high (isFreeIn ss b s) start s))
           ]),
         ))
       ])
 
-  pub name-no-label : (m : ℕ) → isLabel w b (name w b (suc m)) ≡ false
-  unfolding name isFree
-  name-no-label m = boole (isLabel w b (digits (nameNumber w b (suc m)))) (λ h. clash (not (isLabel w b (digits (nameNumber w b (suc m))))) (name-free m) (rw h)) (λ h. h)
-
   -- so every free number from 1 on is the name of a mark (0 stands for no mark)
-  name-least : (m : ℕ) → m ≤ nameNumber w b m
+  pub name-least : (m : ℕ) → m ≤ nameNumberIn ss b s m
   name-least zero = omega arith
   name-least (suc m) = omega (arith, name-least m, name-grows m)
 
-  pub free-named : (x : ℕ) → isFree w b x ≡ true → (m : ℕ) × (nameNumber w b m ≡ x)
-  unfolding nameNumber
+  pub free-named : (x : ℕ) → isFreeIn ss b s x ≡ true → (m : ℕ) × (nameNumberIn ss b s m ≡ x)
+  unfolding nameNumberIn
   free-named x free = go (suc x) (name-least (suc x))
     where
-      go : (m : ℕ) → x < nameNumber w b m → (k : ℕ) × (nameNumber w b k ≡ x)
+      go : (m : ℕ) → x < nameNumberIn ss b s m → (k : ℕ) × (nameNumberIn ss b s k ≡ x)
       go zero l = absurd (omega arith)
       go (suc m) l =
-          elim (decLt x (nameNumber w b m)) [
+          elim (decLt x (nameNumberIn ss b s m)) [
             | yes h ↦ go m h
-            | no h ↦ elim (ℕ-discrete (nameNumber w b m) x) [
+            | no h ↦ elim (ℕ-discrete (nameNumberIn ss b s m) x) [
               | yes e ↦ (m, e)
-              | no e ↦ clash (isFree w b x) free (name-skips m x (omega arith) l)
+              | no e ↦ clash (isFreeIn ss b s x) free (name-skips m x (omega arith) l)
             ]
           ]
+
+  -- ---- counting up: x is the next number to try once mark m has its name
+
+  abbrev pub Next : ℕ → ℕ → Type 0
+  Next m x = (nameNumberIn ss b s m < x) × (x ≤ nameNumberIn ss b s (suc m))
+
+  pub next-first : Next 0 1
+  unfolding nameNumberIn
+  next-first = omega (arith, name-grows 0)
+
+  -- a free number is the next name
+  pub next-free : (m x : ℕ) → Next m x → isFreeIn ss b s x ≡ true → (x ≡ nameNumberIn ss b s (suc m)) × Next (suc m) (x + 1)
+  next-free m x h free =
+      let e : x ≡ nameNumberIn ss b s (suc m) = elim (decLt x (nameNumberIn ss b s (suc m))) [
+        | yes l ↦ clash (isFreeIn ss b s x) free (name-skips m x (h .0) l)
+        | no l ↦ omega arith
+      ] in
+      (e, omega (arith, name-grows (suc m)))
+
+  -- a label is passed
+  pub next-label : (m x : ℕ) → Next m x → isFreeIn ss b s x ≡ false → Next m (x + 1)
+  next-label m x h taken =
+      elim (ℕ-discrete x (nameNumberIn ss b s (suc m))) [
+        | yes e ↦ clash (isFreeIn ss b s x) (ap (isFreeIn ss b s) e ∙ name-free m) taken
+        | no e ↦ omega arith
+      ]
+
+  -- the numbers from 1 to x are names and labels, so a mark's name is at most s past its number
+  record Passed (x : ℕ) : Type 0 where
+    m : ℕ
+    next : Next m (x + 1)
+    as-many : m + sumBelow (λ y. bit (isLabelIn ss b s (digits (1 + y)))) x ≡ x
+
+  passed : (x : ℕ) → Passed x
+  unfolding sumBelow
+  passed zero = record { m = 0; next = next-first; as-many = refl }
+  passed (suc x) =
+      let r = passed x in
+      let e : suc x ≡ x + 1 = omega arith in
+      let f : 1 + x ≡ x + 1 = omega arith in
+      boole (isFreeIn ss b s (x + 1))
+      (λ h. record {
+        m = suc (r .m);
+        next = rw e (next-free (r .m) (x + 1) (r .next) h .1);
+        as-many = rw (f, free-no-label (x + 1) h) (omega (arith, r .as-many));
+      })
+      (λ h. record {
+        m = r .m;
+        next = rw e (next-label (r .m) (x + 1) (r .next) h);
+        as-many = rw (f, not-free-label (x + 1) h) (omega (arith, r .as-many));
+      })
+
+  pub name-most : (m : ℕ) → nameNumberIn ss b s m ≤ m + s
+  name-most m =
+      let x : ℕ = nameNumberIn ss b s m in
+      let r = passed x in
+      elim (decLt m (r .m)) [
+        | yes l ↦ absurd (omega (arith, names-grow m (r .m) l, r .next))
+        | no l ↦ omega (arith, r .as-many, few-labels ss b s 1 x)
+      ]
+
+-- ---- of a table
+
+module _ (w b : List ℕ) where
+  pub name-no-label : (m : ℕ) → isLabel w b (name w b (suc m)) ≡ false
+  unfolding name
+  name-no-label m = free-no-label (statementWords w) b (statements w) (nameNumber w b (suc m)) (name-free (statementWords w) b (statements w) m)
 
   -- names of different marks differ
   pub names-differ : (m k : ℕ) → m ≢ k → name w b m ≢ name w b k
@@ -154,6 +219,6 @@ module _ (w b : List ℕ) where
   names-differ m k d e =
       let same-number : nameNumber w b m ≡ nameNumber w b k = digits-differ _ _ e in
       elim (decLt m k) [
-        | yes h ↦ omega (arith, names-grow m k h)
-        | no h ↦ omega (arith, names-grow k m (omega arith))
+        | yes h ↦ omega (arith, names-grow (statementWords w) b (statements w) m k h)
+        | no h ↦ omega (arith, names-grow (statementWords w) b (statements w) k m (omega arith))
       ]

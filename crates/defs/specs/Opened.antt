@@ -6,7 +6,7 @@ use Rattle.defs.specs.Check.{firstOf, orElse, headerRules, bad1, stateme
 use Rattle.defs.specs.Graph.{graphIn, graphOf, treesBy, treeWithin, treeOf}
 use Rattle.defs.specs.Counts.{parentCount, parents, lower, descend, distances, parentsOf, distancesOf, reachable, sharedSize}
 use Rattle.defs.specs.Steps.{stepWords, flat, refer, getsMark, finish, eachChild, visit, packedWith, packedSteps, listChildren, normalWithin, normalSteps, normalSize, normalCount}
-use Rattle.defs.specs.Names.{digitsWithin, digits, isLabel, isFree, nameNumber, name}
+use Rattle.defs.specs.Names.{digitsWithin, digits, isLabelIn, isFreeIn, nameNumberIn, name}
 use Rattle.defs.specs.Letters.{leading, code, stepNumber, stepLetters, lettersOf}
 use Rattle.defs.specs.Order.{used, listed, costOf, useOf, byUse, byIndex, cutoffs, startAt, blocksFrom, floatings, blocks, best, restReaches, choose, chosen, emit, fillWithin, fillBlock, fillBlocks, labelList}
 use Rattle.defs.specs.Layout.{standard, layoutRules, bad8, lineRoom, begin, putWord, putWords, roomAt, cutWithin, putLetters, widest}
@@ -41,7 +41,7 @@ unfolding stepWords flat refer getsMark finish eachChild visit packedWith packed
 opened-steps = 0
 
 unfoldable pub opened-names : ℕ
-unfolding digitsWithin digits isLabel isFree nameNumber name
+unfolding digitsWithin digits isLabelIn isFreeIn nameNumberIn name
 opened-names = 0
 
 unfoldable pub opened-letters : ℕ

@@ -19,6 +19,14 @@ pub record Outcome : Type 0 where
   pub outs : List (List ℕ)
   pub works : List (List ℕ)
 
+-- as a contract puts it together from what a call left: with one output, and with two
+abbrev pub answerOne : (number length : ℕ) (works : List (List ℕ)) (out : List ℕ) → Outcome
+answerOne number length works out = record { number = number; lengths = length ∷ []; outs = out ∷ []; works = works }
+
+abbrev pub answerTwo : (number first second : ℕ) (works : List (List ℕ)) (out₁ out₂ : List ℕ) → Outcome
+answerTwo number first second works out₁ out₂ =
+    record { number = number; lengths = first ∷ second ∷ []; outs = out₁ ∷ out₂ ∷ []; works = works }
+
 -- ---- the rule, by the number k of the answer
 
 -- a refusal's lengths are 0

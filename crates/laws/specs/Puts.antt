@@ -1,12 +1,12 @@
 -- Words put into a slice: what a writer leaves, what it shows at each of its returns, and what its callers read from that.
 use mathlib.Core.Path.{_≡_, refl, sym, ap, _∙_}
 use mathlib.Core.List.{List, [], _∷_, _++_, append-assoc, append-nil}
-use Prim.Native.Nat.{ℕ, suc, _+_, _<_, _≤_}
+use Prim.Native.Nat.{ℕ, zero, suc, _+_, _-_, _<_, _≤_}
 use native.Mathlib.Decide.{decLt}
 use native.Mathlib.Numerals.{add-one}
 use native.Mathlib.Omega.{arith}
-use lib.ListN.{length, set, take, drop, length-append, length-drop, take-append-drop}
-use lib.Seq.{set-split, take-at, drop-at, drop-length, drop-append-add, drop-drop, length-take-le}
+use lib.ListN.{length, getD, set, take, drop, length-append, length-drop, take-append-drop}
+use lib.Seq.{take-suc, set-at, set-split, take-at, drop-at, drop-length, drop-append-add, drop-drop, length-take-le}
 
 -- places from which a word's end is counted lie below this, 2 to the 62nd: so no end wraps
 abbrev pub farthest : ℕ
@@ -46,6 +46,30 @@ is-put h b = record { ends = b .ends; fits = λ k. b .holds; short = λ k. absur
 pub put-one : (before : List ℕ) (at x : ℕ) → at < length before → Placed (x ∷ []) at (at + 1) before (set before at x)
 put-one before at x h =
     record { ends = refl; holds = set-split before at x h ∙ rw (add-one at) (sym (append-assoc (take at before) (x ∷ []) (drop (suc at) before))) }
+
+-- ---- a word put in front of `end`, from its last letter to its first
+
+pub placed-none : (before : List ℕ) (end : ℕ) → Placed [] end end before before
+placed-none before end = record { ends = omega arith; holds = rw (append-nil (take end before)) (sym (take-append-drop end before)) }
+
+-- one letter more in front of those that stand
+put-front : (before tail rest : List ℕ) (k x : ℕ) → k < length before
+    → set ((take (suc k) before ++ tail) ++ rest) k x ≡ (take k before ++ x ∷ tail) ++ rest
+put-front before tail rest k x h =
+    let t : take (suc k) before ≡ take k before ++ (getD before k 0 ∷ []) = take-suc before k 0 h in
+    let l : length (take k before) ≡ k = length-take-le k before (omega arith) in
+    let r : ((take k before ++ (getD before k 0 ∷ [])) ++ tail) ++ rest ≡ take k before ++ (getD before k 0 ∷ (tail ++ rest)) = simp append-assoc in
+    rw (t, r, set-at (take k before) (getD before k 0) (tail ++ rest) x k l) (simp append-assoc)
+
+pub placed-front : (at x : ℕ) {tail before after : List ℕ} {end : ℕ} → Placed tail at end before after → 0 < at → end ≤ length before
+    → Placed (x ∷ tail) (at - 1) end before (set after (at - 1) x)
+placed-front zero x p h l = absurd (omega arith)
+placed-front (suc k) x {tail} {before} {after} {end} p h l =
+    let e : suc k - 1 ≡ k = omega arith in
+    rw e (record {
+      ends = omega (arith, p .ends);
+      holds = ap (λ (y : List ℕ). set y k x) (p .holds) ∙ put-front before tail (drop end before) k x (omega (arith, p .ends));
+    })
 
 -- a word put at the end of a slice is what stands there from its start on
 pub placed-last : (word before after : List ℕ) (at : ℕ) → Placed word at (length before) before after → drop at after ≡ word

@@ -4,7 +4,7 @@ use mathlib.Core.Logic.{_≢_}
 use Prim.Native.Nat.{ℕ, zero, suc, _+_, _*_, _≤_, _<_}
 use native.Mathlib.Omega.{arith}
 use native.Mathlib.Decide.{decLt}
-use mathlib.Core.Bool.{Bool, false}
+use mathlib.Core.Bool.{Bool, true, false}
 use mathlib.Core.List.{List, [], _∷_, _++_, map}
 use lib.ListN.{length, getD}
 use lib.Dec.{T, eqb, eqb→eq, eqb-refl}
@@ -66,7 +66,7 @@ sum-mono f k (suc n) h =
       | no l ↦ (let e : k ≡ suc n = omega arith in rw e (omega arith))
     ]
 
-sum-add : (f g : ℕ → ℕ) (n : ℕ) → sumBelow (λ x. f x + g x) n ≡ sumBelow f n + sumBelow g n
+pub sum-add : (f g : ℕ → ℕ) (n : ℕ) → sumBelow (λ x. f x + g x) n ≡ sumBelow f n + sumBelow g n
 unfolding sumBelow
 sum-add f g zero = refl
 sum-add f g (suc n) = omega (arith, sum-add f g n)
@@ -79,6 +79,15 @@ sum-bit w e (suc n) h =
     (λ i h1. let z = sum-zero (λ x. bit (eqb x e) * w x) n (λ x l. bit-cases x e (λ j k1. absurd (omega arith)) (λ j k0. rw k0 (omega arith))) in
     rw h1 (omega (arith, z, ap w i)))
     (λ i h0. let ih = sum-bit w e n (omega arith) in rw h0 (omega arith))
+
+-- a test that holds of one number at the most
+pub sum-once : (test : ℕ → Bool) (n : ℕ) → ((x y : ℕ) → test x ≡ true → test y ≡ true → x ≡ y) → sumBelow (λ x. bit (test x)) n ≤ 1
+unfolding sumBelow
+sum-once test zero one = omega arith
+sum-once test (suc n) one =
+    boole (test n)
+    (λ h. let none = sum-zero (λ x. bit (test x)) n (λ x l. boole (test x) (λ t. absurd (omega (arith, one x n t h))) (λ t. rw t)) in rw h (omega arith))
+    (λ h. rw h (omega (arith, sum-once test n one)))
 
 -- a sum over a list, by how often each number stands in it
 pub tot-sum : (w : ℕ → ℕ) (n : ℕ) (xs : List ℕ) → All (λ x. x < n) xs → tot w xs ≡ sumBelow (λ x. count x xs * w x) n

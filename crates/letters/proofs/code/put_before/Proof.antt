@@ -48,7 +48,7 @@ add-out-2 c = omega arith
 slice-write-out-2 : tie.Need-slice-write-out-2 Inv-loop μ-loop
 slice-write-out-2 c =
     let l : length (c .before .loop .out) ≡ length (c .before .before .args .out .now) = kept (c .before) in
-    omega (arith, c .before .loop .inv .1 .ends, sub-at-2 c)
+    omega (arith, c .before .loop .inv .1 .stand .ends, sub-at-2 c)
 
 loop-less : tie.Need-loop-less Inv-loop μ-loop
 loop-less c = omega arith

@@ -1,0 +1,6 @@
+-- Laws that speak of no function: of the digits of a number, of the number that a label says, of the numbers that are labels, of the names.
+mod Decimals
+mod Turns
+mod Numbers
+mod TakenLaws
+mod MarkLaws
