@@ -1,20 +1,20 @@
 -- The tests over sections are the tests of the table that was cut into them; each test that let a table pass gives what the next ones require;
 -- and the first test that refuses gives the number. Assumes nothing.
-use mathlib.Core.Path.{_≡_, refl, sym, ap, _∙_}
-use mathlib.Core.Bool.{Bool, true, false, not, _||_}
-use mathlib.Core.List.{List, [], _∷_}
 use Prim.Native.Nat.{ℕ, _*_}
+use mathlib.Core.Bool.{true, false, not, _||_}
+use mathlib.Core.List.{List, [], _∷_}
+use mathlib.Core.Path.{_≡_, refl, ap, _∙_}
 use native.Mathlib.Omega.{arith}
 use borrow.Author.Tests.{not-false}
 use lib.ListN.{length}
 use Rattle.laws.specs.Tools.{allOf, allBelow, someBelow}
-use Rattle.defs.specs.Table.{stmtSize, entrySize, statements, references, entries, childRefs, statementWords, hypWords, entryWords, childWords}
-use Rattle.defs.specs.Check.{Test, firstOf, statementsRules, labelWrong, labelAgain, referenceOk, hypsRepeat, entriesRules, childrenBelow, bad2, bad3, bad4, bad5, bad6}
+use Rattle.defs.specs.Check.{Test, firstOf, statementsRules, labelWrong, labelAgain, referenceOk, hypsRepeat, entriesRules, childrenBelow, bad2, bad3, bad4, bad5, bad6, bad7, _when_}
 use Rattle.defs.specs.Checked.{HeaderOk}
+use Rattle.defs.specs.Table.{stmtSize, entrySize, statements, references, entries, childRefs, statementWords, hypWords, entryWords, childWords}
 use Rattle.table_check.specs.Right.{LabelsRight, HypsRight, ChildrenRight}
+use Rattle.table_check.proofs.EntryLaws.{entries-decide}
 use Rattle.table_check.proofs.HeaderLaws.{sections-long}
 use Rattle.table_check.proofs.StatementLaws.{statements-decide}
-use Rattle.table_check.proofs.EntryLaws.{entries-decide}
 
 -- the words w, cut into sections and counted
 pub record Cut (w ss hs es cs : List ℕ) (s n : ℕ) : Type 0 where
@@ -84,6 +84,25 @@ module _ {w ss hs es cs : List ℕ} {s n : ℕ} (cut : Cut w ss hs es cs s n) wh
       record { records = entry-records; inside = λ k l. right .line k l .inside }
 
 -- ---- the first test that refuses
+
+-- the tests from each number on
+abbrev pub from7 : (w b : List ℕ) → List Test
+from7 w b = 7 when bad7 w ∷ []
+
+abbrev pub from6 : (w b : List ℕ) → List Test
+from6 w b = 6 when bad6 w ∷ from7 w b
+
+abbrev pub from5 : (w b : List ℕ) → List Test
+from5 w b = 5 when bad5 w ∷ from6 w b
+
+abbrev pub from4 : (w b : List ℕ) → List Test
+from4 w b = 4 when bad4 w ∷ from5 w b
+
+abbrev pub from3 : (w b : List ℕ) → List Test
+from3 w b = 3 when bad3 w b ∷ from4 w b
+
+abbrev pub from2 : (w b : List ℕ) → List Test
+from2 w b = 2 when bad2 w b ∷ from3 w b
 
 pub refuses : (t : Test) (ts : List Test) → t .fails ≡ true → t .number ≡ firstOf (t ∷ ts)
 unfolding firstOf

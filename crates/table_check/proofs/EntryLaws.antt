@@ -1,16 +1,16 @@
 -- The rules of an entry decide the facts of its line, and those of the entry section decide the facts of all lines.
 -- Assumes nothing.
-use mathlib.Core.Path.{_≡_, refl}
-use mathlib.Core.Bool.{Bool, true, false}
-use mathlib.Core.List.{List}
 use Prim.Native.Nat.{ℕ, _+_, _-_, _<_}
+use mathlib.Core.Bool.{Bool, false}
+use mathlib.Core.List.{List}
+use mathlib.Core.Path.{_≡_, refl}
 use native.Mathlib.Omega.{arith}
-use lib.Dec.{T, lt→ltb, ltb→lt, le→leb, leb→le, eqb→eq}
-use Rattle.laws.specs.Tools.{allOf, sumBelow, part}
-use Rattle.laws.specs.Lists.{T-of, of-T, clash, eqb-yes}
+use lib.Dec.{lt→ltb, ltb→lt, le→leb, leb→le, eqb→eq}
 use Rattle.laws.specs.Below.{each, all-of-each, allBelow-at, allBelow-all, sumBelow-next}
-use Rattle.defs.specs.Table.{childStartIn, childCountIn, childrenIn}
+use Rattle.laws.specs.Lists.{T-of, of-T, clash, eqb-yes}
+use Rattle.laws.specs.Tools.{allOf, sumBelow, part}
 use Rattle.defs.specs.Check.{entryRules, entriesRules}
+use Rattle.defs.specs.Table.{childStartIn, childCountIn, childrenIn}
 use Rattle.table.proofs.Lemmas.{between}
 use Rattle.table_check.specs.Right.{ChildrenBefore, EntryRight, EntriesRight}
 use Rattle.table_check.proofs.Decides.{Decides, decides}

@@ -1,20 +1,20 @@
 -- The rules of the goal decide what they say of the theorem and of QED.
 -- Assumes nothing.
-use mathlib.Core.Path.{_≡_, ap, ap₂}
-use mathlib.Core.List.{List}
 use Prim.Native.Nat.{ℕ, _<_}
+use mathlib.Core.List.{List}
+use mathlib.Core.Path.{_≡_, ap, ap₂}
 use native.Mathlib.Omega.{arith}
-use lib.ListN.{length}
 use lib.Dec.{lt→ltb, ltb→lt, eqb→eq}
-use Rattle.laws.specs.Tools.{allOf}
-use Rattle.laws.specs.Lists.{T-of, eqb-yes}
+use lib.ListN.{length}
 use Rattle.laws.specs.Below.{each, all-of-each}
-use Rattle.defs.specs.Table.{statements, entries, theorem, qed, kind, kindIn, statementWords}
+use Rattle.laws.specs.Lists.{T-of, eqb-yes}
+use Rattle.laws.specs.Tools.{allOf}
 use Rattle.defs.specs.Check.{goalRules}
 use Rattle.defs.specs.Checked.{HeaderOk}
+use Rattle.defs.specs.Table.{statements, entries, theorem, qed, kind, kindIn, statementWords}
 use Rattle.table.specs.Records.{StatementIn}
-use Rattle.table_check.proofs.HeaderLaws.{sections-long}
 use Rattle.table_check.proofs.Decides.{Decides, decides}
+use Rattle.table_check.proofs.HeaderLaws.{sections-long}
 
 pub record GoalRight (w : List ℕ) : Type 0 where
   pub theorem-below : theorem w < statements w

@@ -1,13 +1,13 @@
 -- The header's rules decide the facts that `HeaderOk` names: one by one, in its order.
 -- Assumes nothing.
-use mathlib.Core.Path.{ap}
+use Prim.Native.Nat.{ℕ}
 use mathlib.Core.Bool.{not}
 use mathlib.Core.List.{List}
-use Prim.Native.Nat.{ℕ}
+use mathlib.Core.Path.{ap}
 use lib.Dec.{T, le→leb}
-use Rattle.laws.specs.Tools.{allOf}
-use Rattle.laws.specs.Lists.{T-of, eqb-yes, not-no}
 use Rattle.laws.specs.Below.{all-of-each}
+use Rattle.laws.specs.Lists.{T-of, eqb-yes, not-no}
+use Rattle.laws.specs.Tools.{allOf}
 use Rattle.defs.specs.Check.{headerRules, bad1}
 use Rattle.defs.specs.Checked.{HeaderOk, header, SectionsOk, sections}
 use Rattle.table_check.proofs.Decides.{Decides, decides}

@@ -1,15 +1,15 @@
 -- Hypothesis references: what one names, and the part of the section that a statement's list is.
 -- Assumes nothing.
-use mathlib.Core.Path.{_≡_, sym, ap, _∙_}
+use Prim.Native.Nat.{ℕ, _+_, _-_, _≤_, _<_}
 use mathlib.Core.Bool.{false, not}
 use mathlib.Core.List.{List}
-use Prim.Native.Nat.{ℕ, _+_, _-_, _≤_, _<_}
+use mathlib.Core.Path.{_≡_, ap, _∙_}
 use native.Mathlib.Omega.{arith}
 use borrow.Author.Tests.{lt-ltb, le-ltb}
 use lib.Dec.{eqb}
 use Rattle.laws.specs.Tools.{part}
-use Rattle.defs.specs.Table.{word, kindIn, hypStartIn, hypCountIn, hypsIn}
 use Rattle.defs.specs.Check.{referenceOk}
+use Rattle.defs.specs.Table.{word, kindIn, hypStartIn, hypCountIn, hypsIn}
 use Rattle.table.proofs.Lemmas.{between}
 
 module _ (ss hs : List ℕ) (s i named : ℕ) (is : named ≡ word hs i) where

@@ -1,18 +1,18 @@
 -- Label bytes and equal labels: a byte that is none of the allowed ones, the bytes of all labels, two equal lists.
 -- Assumes nothing.
-use mathlib.Core.Path.{_≡_, refl, sym, ap, _∙_}
+use Prim.Native.Nat.{ℕ, zero, suc, _+_, _-_, _≤_}
 use mathlib.Core.Bool.{Bool, true, false, not, _&&_, _||_}
 use mathlib.Core.List.{List, [], _∷_, _++_}
+use mathlib.Core.Path.{_≡_, refl, ap, _∙_}
 use mir.Facts.{and-yes}
-use Prim.Native.Nat.{ℕ, zero, suc, _+_, _-_, _≤_, _<_}
 use native.Mathlib.Omega.{arith}
+use lib.Dec.{eqb, leb, leb→le}
 use lib.ListN.{length, take}
 use lib.Seq.{take-add, take-length}
-use lib.Dec.{T, eqb, leb, leb→le}
 use Rattle.laws.specs.Lists.{boole, no-T, eqb-no, eqb-yes, leb-yes, clash, or-no, part-length}
 use Rattle.laws.specs.Tools.{part, same, all, someBelow, sumBelow}
-use Rattle.defs.specs.Table.{labelStartIn, labelLengthIn, labelIn}
 use Rattle.defs.specs.Check.{labelByte, labelWrong}
+use Rattle.defs.specs.Table.{labelStartIn, labelLengthIn, labelIn}
 use Rattle.table.proofs.Lemmas.{between}
 use Rattle.table_check.specs.Right.{LabelsRight}
 use Rattle.table_check.proofs.Places.{same-decides}

@@ -1,15 +1,15 @@
 -- Tests over a list, place by place: what a loop that counts through a slice and leaves early has seen.
 -- Nothing here is about tables. Assumes nothing.
-use mathlib.Core.Path.{_≡_, refl, sym, ap, subst}
+use Prim.Native.Nat.{ℕ, zero, suc, _<_}
 use mathlib.Core.Bool.{Bool, true, false}
 use mathlib.Core.List.{List, [], _∷_}
+use mathlib.Core.Path.{_≡_, refl, subst}
 use mir.Facts.{and-yes, yes-and}
-use Prim.Native.Nat.{ℕ, zero, suc, _<_}
 use native.Mathlib.Omega.{arith}
-use lib.ListN.{length, getD}
 use lib.Dec.{T, eqb}
-use Rattle.laws.specs.Tools.{all, same, member, repeats}
+use lib.ListN.{length, getD}
 use Rattle.laws.specs.Lists.{T-of, of-T, clash, or-right, eqb-yes, eqb-no, same-refl, same-is}
+use Rattle.laws.specs.Tools.{all, same, member, repeats}
 use Rattle.table_check.proofs.Decides.{Decides, decides}
 
 -- a test of all members, and of the member at each place

@@ -1,18 +1,18 @@
 -- The rules of a statement decide the facts of its line, and those of the statement section decide the facts of all lines.
 -- Assumes nothing.
-use mathlib.Core.Path.{_≡_, refl}
-use mathlib.Core.Bool.{Bool, true, false, _||_}
+use Prim.Native.Nat.{ℕ, _+_, _<_}
+use mathlib.Core.Bool.{Bool, false, _||_}
 use mathlib.Core.List.{List}
 use mathlib.Core.Logic.{_⊎_, inl, inr, ⊎-elim}
+use mathlib.Core.Path.{_≡_, refl}
 use mir.Facts.{or-yes}
-use Prim.Native.Nat.{ℕ, _+_, _<_}
 use native.Mathlib.Omega.{arith}
 use lib.Dec.{T, eqb, le→leb, leb→le, eqb→eq}
-use Rattle.laws.specs.Tools.{allOf, sumBelow}
-use Rattle.laws.specs.Lists.{T-of, of-T, clash, eqb-yes, or-left, or-right}
 use Rattle.laws.specs.Below.{each, all-of-each, allBelow-at, allBelow-all, sumBelow-next}
-use Rattle.defs.specs.Table.{kindIn, labelLengthIn, hypCountIn}
+use Rattle.laws.specs.Lists.{T-of, of-T, clash, eqb-yes, or-left, or-right}
+use Rattle.laws.specs.Tools.{allOf, sumBelow}
 use Rattle.defs.specs.Check.{statementRules, statementsRules}
+use Rattle.defs.specs.Table.{kindIn, labelLengthIn, hypCountIn}
 use Rattle.table_check.specs.Right.{TakenBefore, StatementRight, StatementsRight}
 use Rattle.table_check.proofs.Decides.{Decides, decides}
 

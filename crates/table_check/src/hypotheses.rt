@@ -27,6 +27,7 @@ fn reference_right(statements: &[u32], count: u32, hyps: &[u32], i: usize) -> bo
     kind(statements, named) != ASSERTION
 }
 
+// Every reference of the section is right.
 fn references_right(statements: &[u32], count: u32, hyps: &[u32]) -> bool
     requires { ⌜ length (now statements) ≡ stmtSize * count ⌝ }
     ensures { λ r. ⌜ r ≡ allBelow (referenceOk (now (statements .entry)) (now (hyps .entry)) count) (length (now (hyps .entry))) ⌝ }

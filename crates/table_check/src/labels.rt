@@ -66,7 +66,8 @@ fn has_label(statements: &[u32], labels: &[u8], j: StatementNo, label: &[u8]) ->
     same_bytes(&labels[start..end], label)
 }
 
-// Two statements have equal labels: all pairs are searched, and both loops are left at the first hit.
+// Two statements have equal labels: all pairs are searched, and both loops are left at the first hit. The later label of a
+// pair is cut once for each outer turn.
 fn label_repeated(statements: &[u32], count: u32, labels: &[u8]) -> bool
     requires { ⌜ LabelsRight (now statements) (now labels) count ⌝ }
     ensures { λ r. ⌜ r ≡ someBelow (labelAgain (now (statements .entry)) (now (labels .entry))) count ⌝ }

@@ -1,24 +1,20 @@
-use Rattle.table_check.proofs.EntryLaws.{children-part}
-use Rattle.defs.specs.Check.{childrenBelow}
-use Rattle.laws.specs.Below.{allBelow-all, allBelow-fails}
-use Rattle.laws.specs.Lists.{T-of, not-no}
-use Rattle.laws.specs.Tools.{all, allBelow}
-use borrow.Author.Needs.{needs}
-use borrow.Author.Tests.{not-true, not-false}
-use borrow.Author.Count.{below-none, below-more}
-use lib.Dec.{ltb}
-use mathlib.Core.List.{List}
+-- `children_wrong` is test 6. Invariant: the children of every entry passed are below it.
+-- What is lent to `all_below` is the list of the entry, since the record names its start and count. Assumes nothing.
+use Prim.Native.Nat.{ℕ, _≤_, _<_, _-_}
 use mathlib.Core.Bool.{true, not}
 use mathlib.Core.Path.{_≡_, sym, ap, _∙_}
 use native.Mathlib.Omega.{arith}
-use Prim.Native.Nat.{ℕ, _≤_, _<_, _-_}
+use borrow.Author.Count.{below-none, below-more}
+use borrow.Author.Needs.{needs}
+use borrow.Author.Tests.{not-true, not-false}
+use lib.Dec.{ltb}
+use Rattle.laws.specs.Below.{allBelow-all, allBelow-fails}
+use Rattle.laws.specs.Lists.{T-of, not-no}
+use Rattle.laws.specs.Tools.{all, allBelow}
+use Rattle.defs.specs.Check.{childrenBelow}
+use Rattle.table_check.proofs.EntryLaws.{children-part}
 use Rattle.table_check.proofs.entries.children_wrong.Statement.{statement}
 use Rattle.table_check.proofs.entries.children_wrong.Tie as tie
-use Rattle.table_check.proofs.entries.children_wrong.Reads as reads
-use Rattle.table_check.proofs.entries.children_wrong.Lts as lts
-use Rattle.table.proofs.entries.child_count.Reads as child-count-reads
-use Rattle.table.proofs.entries.child_start.Reads as child-start-reads
-use Rattle.table_check.proofs.entries.all_below.Reads as all-below-reads
 
 abbrev Inv-loop : tie.InvT-loop
 Inv-loop entries entry-count children e₀ e = (e ≤ entry-count) × ((k : ℕ) → k < e → childrenBelow entries children k ≡ true)
@@ -31,59 +27,45 @@ seen : (c : tie.After-all-below Inv-loop μ-loop) → c .all-below .result ≡ c
 unfolding childrenBelow
 seen c = c .all-below .ensures ∙ ap (all (λ x. ltb x (c .before .before .before .before .before .loop .e))) (children-part _ _ _ _ _ (c .before .before .before .child-start .ensures) (c .before .before .child-count .ensures))
 
--- src/entries.rt:92:5
 loop-holds : tie.Need-loop-holds Inv-loop μ-loop
 loop-holds c = (omega arith, below-none _)
 
--- src/entries.rt:93:13
 child-start-requires : tie.Need-child-start-requires Inv-loop μ-loop
 child-start-requires c κs = omega arith
 
--- src/entries.rt:94:27
 child-count-requires : tie.Need-child-count-requires Inv-loop μ-loop
 child-count-requires c κs = omega arith
 
--- src/entries.rt:94:19
 add-end : tie.Need-add-end Inv-loop μ-loop
 add-end c = omega (arith, c .before .before .before .before .before .before .pre .inside (c .before .before .before .loop .e) (omega arith))
 
--- src/entries.rt:95:23
 mul-all-below : tie.Need-mul-all-below Inv-loop μ-loop
 mul-all-below c = omega (arith, c .before .before .before .before .before .before .pre .inside (c .before .before .before .loop .e) (omega arith))
 
--- src/entries.rt:95:23
 sub-all-below : tie.Need-sub-all-below Inv-loop μ-loop
 sub-all-below c = omega arith
 
--- src/entries.rt:95:23
 part-all-below-start : tie.Need-part-all-below-start Inv-loop μ-loop
 part-all-below-start c = omega arith
 
--- src/entries.rt:95:23
 part-all-below-end : tie.Need-part-all-below-end Inv-loop μ-loop
 part-all-below-end c = omega (arith, c .before .before .before .before .before .before .pre .inside (c .before .before .before .loop .e) (omega arith))
 
--- src/entries.rt:95:13
 all-below-requires : tie.Need-all-below-requires Inv-loop μ-loop
 all-below-requires c κs = search needs
 
--- src/entries.rt:96:13
 returns : tie.Need-returns Inv-loop μ-loop
 returns c = ap not (sym (allBelow-fails _ (c .before .before .before .before .before .before .loop .e) _ (omega arith) (sym (seen (c .before)) ∙ not-true _ (c .if1 .taken))))
 
--- src/entries.rt:98:9
 add-e : tie.Need-add-e Inv-loop μ-loop
 add-e c = omega arith
 
--- src/entries.rt:92:5
 loop-less : tie.Need-loop-less Inv-loop μ-loop
 loop-less c = omega arith
 
--- src/entries.rt:92:5
 loop-again : tie.Need-loop-again Inv-loop μ-loop
 loop-again c = (omega arith, below-more _ _ (c .before .before .before .before .before .before .loop .inv .1) (sym (seen (c .before)) ∙ not-false _ (c .if1 .left)))
 
--- src/entries.rt:87:1
 returns-2 : tie.Need-returns-2 Inv-loop μ-loop
 returns-2 c =
     let end : c .before .loop .e ≡ c .before .before .before .before .args .entry-count = omega arith in

@@ -1,18 +1,16 @@
-use Rattle.table_check.proofs.EntryLaws.{entry-decides, entries-decide, children-none, children-next, entry-wrong}
-use Rattle.table_check.proofs.Decides.{last-differs}
-use Rattle.table_check.specs.Right.{ChildrenBefore, EntryRight}
-use borrow.Author.Tests.{not-true, not-false}
-use borrow.Author.Count.{below-none, below-more}
+-- `entries_wrong` is test 5. Invariant: the running sum is that of the entries passed, and each of their lines is kept.
+-- A line that is not kept decides at once; after the loop the sum must be the whole place. Assumes nothing.
+use Prim.Native.Nat.{ℕ, _≤_, _<_, _-_}
 use mathlib.Core.Bool.{not}
 use mathlib.Core.Path.{_≡_, sym, ap, _∙_}
 use native.Mathlib.Omega.{arith}
-use Prim.Native.Nat.{ℕ, _≤_, _<_, _-_}
+use borrow.Author.Count.{below-none, below-more}
+use borrow.Author.Tests.{not-true, not-false}
+use Rattle.table_check.specs.Right.{ChildrenBefore, EntryRight}
+use Rattle.table_check.proofs.Decides.{last-differs}
+use Rattle.table_check.proofs.EntryLaws.{entry-decides, entries-decide, children-none, children-next, entry-wrong}
 use Rattle.table_check.proofs.entries.entries_wrong.Statement.{statement}
 use Rattle.table_check.proofs.entries.entries_wrong.Tie as tie
-use Rattle.table_check.proofs.entries.entries_wrong.Reads as reads
-use Rattle.table_check.proofs.entries.entries_wrong.Lts as lts
-use Rattle.table.proofs.entries.child_count.Reads as child-count-reads
-use Rattle.table_check.proofs.entries.entry_right.Reads as entry-right-reads
 
 abbrev Inv-loop : tie.InvT-loop
 Inv-loop statements count entries entry-count child-refs taken₀ e₀ taken e =
@@ -25,42 +23,33 @@ abbrev μ-loop : tie.MeasureT-loop
 here : (c : tie.Else1 Inv-loop μ-loop) → EntryRight (c .before .before .before .before .before .before .args .statements .now) (c .before .before .before .before .before .before .args .entries .now) (c .before .before .before .before .before .before .args .count) (c .before .before .before .before .before .before .args .child-refs) (c .before .before .before .loop .e)
 here c = entry-decides _ _ _ _ _ .so (sym (c .before .entry-right .ensures) ∙ not-false _ (c .if1 .left))
 
--- src/entries.rt:62:5
 loop-holds : tie.Need-loop-holds Inv-loop μ-loop
 loop-holds c = (omega arith, children-none _ _, below-none _)
 
--- src/entries.rt:63:13
 entry-right-requires : tie.Need-entry-right-requires Inv-loop μ-loop
 entry-right-requires c κs = omega arith
 
--- src/entries.rt:64:13
 returns : tie.Need-returns Inv-loop μ-loop
 returns c = ap not (sym (entry-wrong _ _ _ _ _ (c .before .before .before .loop .e) (omega arith) (sym (c .before .entry-right .ensures) ∙ not-true _ (c .if1 .taken))))
 
--- src/entries.rt:66:18
 child-count-requires : tie.Need-child-count-requires Inv-loop μ-loop
 child-count-requires c κs = omega arith
 
--- src/entries.rt:66:9
 add-taken : tie.Need-add-taken Inv-loop μ-loop
 add-taken c = omega (arith, here (c .before))
 
--- src/entries.rt:67:9
 add-e : tie.Need-add-e Inv-loop μ-loop
 add-e c = omega arith
 
--- src/entries.rt:62:5
 loop-less : tie.Need-loop-less Inv-loop μ-loop
 loop-less c = omega arith
 
--- src/entries.rt:62:5
 loop-again : tie.Need-loop-again Inv-loop μ-loop
 loop-again c =
     let e = c .before .before .before .before .loop .e in
     let next = children-next _ _ _ _ e _ (c .before .before .before .before .loop .inv .1) (here (c .before)) in
     (omega arith, rw (c .child-count .ensures) next, below-more _ e (c .before .before .before .before .loop .inv .2) (here (c .before)))
 
--- src/entries.rt:49:1
 returns-2 : tie.Need-returns-2 Inv-loop μ-loop
 returns-2 c =
     let all : c .before .loop .e ≡ c .before .before .before .before .args .entry-count = omega arith in

@@ -1,52 +1,39 @@
-use Rattle.table_check.proofs.EntryLaws.{entry-decides}
-use Rattle.table_check.proofs.Decides.{last-most}
-use Rattle.defs.specs.Table.{hypCountIn}
-use mathlib.Core.Path.{sym, ap}
+-- `entry_right` decides the line of an entry: each early return lacks one of its facts, the last test has the others.
+-- A difference is taken, not a sum, so that nothing wraps. Assumes nothing.
 use Prim.Native.Nat.{_-_}
+use mathlib.Core.Path.{sym, ap}
 use native.Mathlib.Omega.{arith}
 use borrow.Author.Needs.{needs}
+use Rattle.defs.specs.Table.{hypCountIn}
+use Rattle.table_check.proofs.Decides.{last-most}
+use Rattle.table_check.proofs.EntryLaws.{entry-decides}
 use Rattle.table_check.proofs.entries.entry_right.Statement.{statement}
 use Rattle.table_check.proofs.entries.entry_right.Tie as tie
-use Rattle.table_check.proofs.entries.entry_right.Reads as reads
-use Rattle.table_check.proofs.entries.entry_right.Lts as lts
-use Rattle.table.proofs.entries.child_count.Reads as child-count-reads
-use Rattle.table.proofs.entries.child_start.Reads as child-start-reads
-use Rattle.table.proofs.entries.statement_of.Reads as statement-of-reads
-use Rattle.table.proofs.statements.hyp_count.Reads as hyp-count-reads
 
--- src/entries.rt:34:9
 statement-of-requires : tie.Need-statement-of-requires
 statement-of-requires c κs = search needs
 
--- src/entries.rt:36:9
 returns : tie.Need-returns
 returns c = sym (entry-decides _ _ _ _ _ .no (λ right. omega arith))
 
--- src/entries.rt:38:8
 child-start-requires : tie.Need-child-start-requires
 child-start-requires c κs = search needs
 
--- src/entries.rt:39:9
 returns-2 : tie.Need-returns-2
 returns-2 c = sym (entry-decides _ _ _ _ _ .no (λ right. omega arith))
 
--- src/entries.rt:41:9
 child-count-requires : tie.Need-child-count-requires
 child-count-requires c κs = search needs
 
--- src/entries.rt:42:20
 hyp-count-requires : tie.Need-hyp-count-requires
 hyp-count-requires c κs = search needs
 
--- src/entries.rt:43:9
 returns-3 : tie.Need-returns-3
 returns-3 c = sym (entry-decides _ _ _ _ _ .no (λ right. omega (arith, ap (hypCountIn (c .before .before .before .before .before .before .before .before .before .before .args .statements .now)) (c .before .before .before .before .before .before .before .statement-of .ensures))))
 
--- src/entries.rt:45:17
 sub-result : tie.Need-sub-result
 sub-result c = search needs
 
--- src/entries.rt:21:1
 returns-4 : tie.Need-returns-4
 returns-4 c =
     let named = ap (hypCountIn (c .before .before .before .before .before .before .before .before .before .before .args .statements .now)) (c .before .before .before .before .before .before .before .statement-of .ensures) in

@@ -1,170 +1,132 @@
-use lib.ListN.{length}
+-- `header_wrong` is test 1: each early return lacks one fact of `HeaderOk`, and the last test has all the others.
+-- The sums cannot wrap, since the counts were compared with their limits first. Assumes nothing.
 use Prim.Native.Nat.{_+_, _*_}
-use Rattle.defs.specs.Table.{headerSize, stmtSize, entrySize}
-use Rattle.table_check.proofs.HeaderLaws.{header-decides}
-use Rattle.table_check.proofs.Decides.{last-differs}
-use borrow.Author.Tests.{eqb-true, eqb-false}
-use Rattle.defs.specs.Check.{bad1}
 use mathlib.Core.Bool.{not}
-use mathlib.Core.Path.{_≡_, sym, ap}
+use mathlib.Core.Path.{sym, ap}
 use native.Mathlib.Omega.{arith}
 use borrow.Author.Needs.{needs}
+use lib.ListN.{length}
+use Rattle.defs.specs.Check.{bad1}
+use Rattle.defs.specs.Table.{headerSize, stmtSize, entrySize}
+use Rattle.table_check.proofs.Decides.{last-differs}
+use Rattle.table_check.proofs.HeaderLaws.{header-decides}
 use Rattle.table_check.proofs.header.header_wrong.Statement.{statement}
 use Rattle.table_check.proofs.header.header_wrong.Tie as tie
-use Rattle.table_check.proofs.header.header_wrong.Reads as reads
-use Rattle.table_check.proofs.header.header_wrong.Lts as lts
-use Rattle.table.proofs.numbers.wide.Reads as wide-reads
 
--- src/header.rt:19:9
 returns : tie.Need-returns
 unfolding bad1
 returns c = sym (ap not (header-decides _ .no (λ ok. omega arith)))
 
--- src/header.rt:21:25
 shared-slice-read-if2 : tie.Need-shared-slice-read-if2
 shared-slice-read-if2 c = search needs
 
--- src/header.rt:22:9
 returns-2 : tie.Need-returns-2
 unfolding bad1
 returns-2 c = sym (ap not (header-decides _ .no (λ ok. omega arith)))
 
--- src/header.rt:24:25
 shared-slice-read-if3 : tie.Need-shared-slice-read-if3
 shared-slice-read-if3 c = search needs
 
--- src/header.rt:25:9
 returns-3 : tie.Need-returns-3
 unfolding bad1
 returns-3 c = sym (ap not (header-decides _ .no (λ ok. omega arith)))
 
--- src/header.rt:27:22
 shared-slice-read-if4 : tie.Need-shared-slice-read-if4
 shared-slice-read-if4 c = search needs
 
--- src/header.rt:28:9
 returns-4 : tie.Need-returns-4
 unfolding bad1
 returns-4 c = sym (ap not (header-decides _ .no (λ ok. omega arith)))
 
--- src/header.rt:30:25
 shared-slice-read-if5 : tie.Need-shared-slice-read-if5
 shared-slice-read-if5 c = search needs
 
--- src/header.rt:31:9
 returns-5 : tie.Need-returns-5
 unfolding bad1
 returns-5 c = sym (ap not (header-decides _ .no (λ ok. omega arith)))
 
--- src/header.rt:33:59
 shared-slice-read-wide : tie.Need-shared-slice-read-wide
 shared-slice-read-wide c = search needs
 
--- src/header.rt:33:54
 wide-requires : tie.Need-wide-requires
 wide-requires c κs = search needs
 
--- src/header.rt:33:36
 mul-hyps-from : tie.Need-mul-hyps-from
 mul-hyps-from c = search needs
 
--- src/header.rt:33:21
 add-hyps-from : tie.Need-add-hyps-from
 add-hyps-from c = search needs
 
--- src/header.rt:34:41
 shared-slice-read-wide-2 : tie.Need-shared-slice-read-wide-2
 shared-slice-read-wide-2 c = search needs
 
--- src/header.rt:34:36
 wide-requires-2 : tie.Need-wide-requires-2
 wide-requires-2 c κs = search needs
 
--- src/header.rt:34:24
 add-entries-from : tie.Need-add-entries-from
 add-entries-from c = search needs
 
--- src/header.rt:35:59
 shared-slice-read-wide-3 : tie.Need-shared-slice-read-wide-3
 shared-slice-read-wide-3 c = search needs
 
--- src/header.rt:35:54
 wide-requires-3 : tie.Need-wide-requires-3
 wide-requires-3 c κs = search needs
 
--- src/header.rt:35:40
 mul-children-from : tie.Need-mul-children-from
 mul-children-from c = search needs
 
--- src/header.rt:35:25
 add-children-from : tie.Need-add-children-from
 add-children-from c = search needs
 
--- src/header.rt:36:38
 shared-slice-read-wide-4 : tie.Need-shared-slice-read-wide-4
 shared-slice-read-wide-4 c = search needs
 
--- src/header.rt:36:33
 wide-requires-4 : tie.Need-wide-requires-4
 wide-requires-4 c κs = search needs
 
--- src/header.rt:36:17
 add-whole : tie.Need-add-whole
 add-whole c = search needs
 
--- src/header.rt:37:13
 shared-slice-read-wide-5 : tie.Need-shared-slice-read-wide-5
 shared-slice-read-wide-5 c = search needs
 
--- src/header.rt:37:8
 wide-requires-5 : tie.Need-wide-requires-5
 wide-requires-5 c κs = search needs
 
--- src/header.rt:38:9
 returns-6 : tie.Need-returns-6
 unfolding bad1
 returns-6 c = sym (ap not (header-decides _ .no (λ ok. omega arith)))
 
--- src/header.rt:40:13
 shared-slice-read-wide-6 : tie.Need-shared-slice-read-wide-6
 shared-slice-read-wide-6 c = search needs
 
--- src/header.rt:40:8
 wide-requires-6 : tie.Need-wide-requires-6
 wide-requires-6 c κs = search needs
 
--- src/header.rt:41:9
 returns-7 : tie.Need-returns-7
 unfolding bad1
 returns-7 c = sym (ap not (header-decides _ .no (λ ok. omega arith)))
 
--- src/header.rt:43:13
 shared-slice-read-wide-7 : tie.Need-shared-slice-read-wide-7
 shared-slice-read-wide-7 c = search needs
 
--- src/header.rt:43:8
 wide-requires-7 : tie.Need-wide-requires-7
 wide-requires-7 c κs = search needs
 
--- src/header.rt:44:9
 returns-8 : tie.Need-returns-8
 unfolding bad1
 returns-8 c = sym (ap not (header-decides _ .no (λ ok. omega arith)))
 
--- src/header.rt:46:13
 shared-slice-read-wide-8 : tie.Need-shared-slice-read-wide-8
 shared-slice-read-wide-8 c = search needs
 
--- src/header.rt:46:8
 wide-requires-8 : tie.Need-wide-requires-8
 wide-requires-8 c κs = search needs
 
--- src/header.rt:47:9
 returns-9 : tie.Need-returns-9
 unfolding bad1
 returns-9 c = sym (ap not (header-decides _ .no (λ ok. omega arith)))
 
--- src/header.rt:15:1
 returns-10 : tie.Need-returns-10
 unfolding bad1
 returns-10 c =

@@ -1,27 +1,21 @@
-use Rattle.table_check.proofs.Decides.{first-holds, second-decides}
+-- `hypotheses_wrong` is test 4: references first, then repeats.
+-- Assumes nothing.
 use mathlib.Core.Bool.{not}
-use mathlib.Core.Path.{_≡_, sym, ap, _∙_}
+use mathlib.Core.Path.{sym, ap, _∙_}
 use borrow.Author.Needs.{needs}
+use Rattle.table_check.proofs.Decides.{first-holds, second-decides}
 use Rattle.table_check.proofs.hypotheses.hypotheses_wrong.Statement.{statement}
 use Rattle.table_check.proofs.hypotheses.hypotheses_wrong.Tie as tie
-use Rattle.table_check.proofs.hypotheses.hypotheses_wrong.Reads as reads
-use Rattle.table_check.proofs.hypotheses.hypotheses_wrong.Lts as lts
-use Rattle.table_check.proofs.hypotheses.lists_repeat.Reads as lists-repeat-reads
-use Rattle.table_check.proofs.hypotheses.references_right.Reads as references-right-reads
 
--- src/hypotheses.rt:89:9
 references-right-requires : tie.Need-references-right-requires
 references-right-requires c κs = search needs
 
--- src/hypotheses.rt:90:9
 returns : tie.Need-returns
 returns c = first-holds _ _ (ap not (sym (c .before .references-right .ensures)) ∙ c .if1 .taken)
 
--- src/hypotheses.rt:92:5
 lists-repeat-requires : tie.Need-lists-repeat-requires
 lists-repeat-requires c κs = search needs
 
--- src/hypotheses.rt:84:1
 returns-2 : tie.Need-returns-2
 returns-2 c = second-decides _ _ _ (ap not (sym (c .before .before .references-right .ensures)) ∙ c .before .if1 .left) (c .lists-repeat .ensures)
 

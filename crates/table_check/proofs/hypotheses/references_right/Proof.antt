@@ -1,18 +1,17 @@
-use Rattle.defs.specs.Check.{referenceOk}
-use Rattle.laws.specs.Below.{allBelow-all, allBelow-fails}
-use Rattle.laws.specs.Lists.{T-of, of-T}
-use borrow.Author.Tests.{not-true, not-false}
-use borrow.Author.Count.{below-none, below-more}
-use lib.ListN.{length}
+-- `references_right` tests all references. Invariant: every reference passed is right.
+-- One that is not decides at once. Assumes nothing.
+use Prim.Native.Nat.{ℕ, _≤_, _<_, _-_}
 use mathlib.Core.Bool.{true}
 use mathlib.Core.Path.{_≡_, sym, _∙_}
 use native.Mathlib.Omega.{arith}
-use Prim.Native.Nat.{ℕ, _≤_, _<_, _-_}
+use borrow.Author.Count.{below-none, below-more}
+use borrow.Author.Tests.{not-true, not-false}
+use lib.ListN.{length}
+use Rattle.laws.specs.Below.{allBelow-all, allBelow-fails}
+use Rattle.laws.specs.Lists.{T-of, of-T}
+use Rattle.defs.specs.Check.{referenceOk}
 use Rattle.table_check.proofs.hypotheses.references_right.Statement.{statement}
 use Rattle.table_check.proofs.hypotheses.references_right.Tie as tie
-use Rattle.table_check.proofs.hypotheses.references_right.Reads as reads
-use Rattle.table_check.proofs.hypotheses.references_right.Lts as lts
-use Rattle.table_check.proofs.hypotheses.reference_right.Reads as reference-right-reads
 
 abbrev Inv-loop : tie.InvT-loop
 Inv-loop statements count hyps i₀ i = (i ≤ length hyps) × ((k : ℕ) → k < i → referenceOk statements hyps count k ≡ true)
@@ -20,31 +19,24 @@ Inv-loop statements count hyps i₀ i = (i ≤ length hyps) × ((k : ℕ) → k 
 abbrev μ-loop : tie.MeasureT-loop
 μ-loop statements count hyps i₀ i = length hyps - i
 
--- src/hypotheses.rt:36:5
 loop-holds : tie.Need-loop-holds Inv-loop μ-loop
 loop-holds c = (omega arith, below-none _)
 
--- src/hypotheses.rt:37:13
 reference-right-requires : tie.Need-reference-right-requires Inv-loop μ-loop
 reference-right-requires c κs = omega arith
 
--- src/hypotheses.rt:38:13
 returns : tie.Need-returns Inv-loop μ-loop
 returns c = sym (allBelow-fails _ (c .before .before .before .loop .i) _ (omega arith) (sym (c .before .reference-right .ensures) ∙ not-true _ (c .if1 .taken)))
 
--- src/hypotheses.rt:40:9
 add-i : tie.Need-add-i Inv-loop μ-loop
 add-i c = omega arith
 
--- src/hypotheses.rt:36:5
 loop-less : tie.Need-loop-less Inv-loop μ-loop
 loop-less c = omega arith
 
--- src/hypotheses.rt:36:5
 loop-again : tie.Need-loop-again Inv-loop μ-loop
 loop-again c = (omega arith, below-more _ _ (c .before .before .before .loop .inv .1) (sym (c .before .reference-right .ensures) ∙ not-false _ (c .if1 .left)))
 
--- src/hypotheses.rt:31:1
 returns-2 : tie.Need-returns-2 Inv-loop μ-loop
 returns-2 c =
     let end : c .before .loop .i ≡ length (c .before .before .before .before .args .hyps .now) = omega arith in

@@ -1,22 +1,17 @@
-use Rattle.table_check.proofs.LabelLaws.{label-part}
-use Rattle.defs.specs.Check.{labelAgain}
-use Rattle.defs.specs.Table.{labelStartIn, labelLengthIn, labelIn}
-use Rattle.laws.specs.Below.{someBelow-none, someBelow-holds}
-use Rattle.laws.specs.Tools.{same, someBelow}
-use lib.ListN.{length}
-use borrow.Author.Count.{below-none, below-more}
-use native.Mathlib.Omega.{arith}
-use Prim.Native.Nat.{ℕ, _≤_, _<_, _-_, _+_}
-use mathlib.Core.List.{List}
+-- `label_repeated` searches all pairs. Invariants: the label of k is none of those below j, and no statement below k has an earlier label.
+-- A hit leaves both loops and decides. Assumes nothing.
+use Prim.Native.Nat.{ℕ, _≤_, _<_, _-_}
 use mathlib.Core.Bool.{false}
 use mathlib.Core.Path.{_≡_, refl, sym, ap, _∙_}
+use native.Mathlib.Omega.{arith}
+use borrow.Author.Count.{below-none, below-more}
+use Rattle.laws.specs.Below.{someBelow-none, someBelow-holds}
+use Rattle.laws.specs.Tools.{same}
+use Rattle.defs.specs.Check.{labelAgain}
+use Rattle.defs.specs.Table.{labelIn}
+use Rattle.table_check.proofs.LabelLaws.{label-part}
 use Rattle.table_check.proofs.labels.label_repeated.Statement.{statement}
 use Rattle.table_check.proofs.labels.label_repeated.Tie as tie
-use Rattle.table_check.proofs.labels.label_repeated.Reads as reads
-use Rattle.table_check.proofs.labels.label_repeated.Lts as lts
-use Rattle.table.proofs.statements.label_length.Reads as label-length-reads
-use Rattle.table.proofs.statements.label_start.Reads as label-start-reads
-use Rattle.table_check.proofs.labels.has_label.Reads as has-label-reads
 
 abbrev Inv-loop : tie.InvT-loop
 Inv-loop statements count labels found₀ k start end label j₀ found j =
@@ -36,76 +31,59 @@ seen : (c : tie.After-has-label Inv-loop μ-loop Inv-search μ-search) → c .ha
     ≡ same (labelIn (c .before .before .before .before .before .before .before .before .before .before .args .statements .now) (c .before .before .before .before .before .before .before .before .before .before .args .labels .now) (c .before .before .loop .j)) (labelIn (c .before .before .before .before .before .before .before .before .before .before .args .statements .now) (c .before .before .before .before .before .before .before .before .before .before .args .labels .now) (c .before .before .before .before .before .before .before .search .k))
 seen c = c .has-label .ensures ∙ ap (same _) (label-part _ _ _ _ _ (c .before .before .before .before .before .label-start .ensures) (c .before .before .before .before .label-length .ensures))
 
--- src/labels.rt:77:5
 search-holds : tie.Need-search-holds Inv-loop μ-loop Inv-search μ-search
 search-holds c = (omega arith, refl, below-none _)
 
--- src/labels.rt:78:13
 label-start-requires : tie.Need-label-start-requires Inv-loop μ-loop Inv-search μ-search
 label-start-requires c κs = omega arith
 
--- src/labels.rt:79:27
 label-length-requires : tie.Need-label-length-requires Inv-loop μ-loop Inv-search μ-search
 label-length-requires c κs = omega arith
 
--- src/labels.rt:79:19
 add-end : tie.Need-add-end Inv-loop μ-loop Inv-search μ-search
 add-end c = omega (arith, c .before .before .before .before .before .before .pre .inside (c .before .before .before .search .k) (omega arith))
 
--- src/labels.rt:80:21
 sub-label : tie.Need-sub-label Inv-loop μ-loop Inv-search μ-search
 sub-label c = omega arith
 
--- src/labels.rt:80:21
 part-label-start : tie.Need-part-label-start Inv-loop μ-loop Inv-search μ-search
 part-label-start c = omega arith
 
--- src/labels.rt:80:21
 part-label-end : tie.Need-part-label-end Inv-loop μ-loop Inv-search μ-search
 part-label-end c = omega (arith, c .before .before .before .before .before .before .pre .inside (c .before .before .before .search .k) (omega arith))
 
--- src/labels.rt:82:9
 loop-holds : tie.Need-loop-holds Inv-loop μ-loop Inv-search μ-search
 loop-holds c = (omega arith, c .before .before .before .before .search .inv .1, below-none _)
 
--- src/labels.rt:83:16
 has-label-requires : tie.Need-has-label-requires Inv-loop μ-loop Inv-search μ-search
 has-label-requires c κs = (omega arith, c .before .before .before .before .before .before .before .before .before .pre .inside (c .before .loop .j) (omega arith))
 
--- src/labels.rt:87:13
 add-j : tie.Need-add-j Inv-loop μ-loop Inv-search μ-search
 add-j c = omega arith
 
--- src/labels.rt:82:9
 loop-less : tie.Need-loop-less Inv-loop μ-loop Inv-search μ-search
 loop-less c = omega arith
 
--- src/labels.rt:82:9
 loop-again : tie.Need-loop-again Inv-loop μ-loop Inv-search μ-search
 loop-again c = (omega arith, c .before .before .before .loop .inv .1, below-more _ _ (c .before .before .before .loop .inv .2) (sym (seen (c .before)) ∙ c .if1 .left))
 
--- src/labels.rt:89:9
 add-k : tie.Need-add-k Inv-loop μ-loop Inv-search μ-search
 add-k c = omega arith
 
--- src/labels.rt:77:5
 search-less : tie.Need-search-less Inv-loop μ-loop Inv-search μ-search
 search-less c = omega arith
 
--- src/labels.rt:77:5
 search-again : tie.Need-search-again Inv-loop μ-loop Inv-search μ-search
 unfolding labelAgain
 search-again c =
     let end : c .before .loop .j ≡ c .before .before .before .before .before .before .search .k = omega arith in
     (omega arith, c .before .loop .inv .1, below-more _ _ (c .before .before .before .before .before .before .search .inv .2) (someBelow-none _ _ (rw end at (c .before .loop .inv .2))))
 
--- src/labels.rt:71:1
 returns : tie.Need-returns Inv-loop μ-loop Inv-search μ-search
 returns c =
     let end : c .before .search .k ≡ c .before .before .before .before .args .count = omega arith in
     c .before .search .inv .1 ∙ sym (someBelow-none _ _ (rw end at (c .before .search .inv .2)))
 
--- src/labels.rt:71:1
 returns-2 : tie.Need-returns-2 Inv-loop μ-loop Inv-search μ-search
 unfolding labelAgain
 returns-2 c = sym (someBelow-holds _ (c .before .before .before .before .before .before .before .before .search .k) _ (omega arith) (someBelow-holds _ (c .before .before .before .loop .j) _ (omega arith) (sym (seen (c .before)) ∙ c .if1 .taken)))

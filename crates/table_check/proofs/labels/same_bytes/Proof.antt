@@ -1,15 +1,15 @@
-use Rattle.table_check.proofs.Places.{same-decides}
-use borrow.Author.Count.{below-none, below-more}
-use lib.Seq.{ext-getD}
-use lib.ListN.{length, getD}
-use mathlib.Core.List.{List}
-use mathlib.Core.Path.{_≡_, sym, ap, _∙_}
-use native.Mathlib.Omega.{arith}
+-- `same_bytes` compares two lists of one length. Invariant: they agree at every place passed.
+-- The first difference decides; with none the lists are equal. Assumes nothing.
 use Prim.Native.Nat.{ℕ, _≤_, _<_, _-_}
+use mathlib.Core.List.{List}
+use mathlib.Core.Path.{_≡_, sym, ap}
+use native.Mathlib.Omega.{arith}
+use borrow.Author.Count.{below-none, below-more}
+use lib.ListN.{length, getD}
+use lib.Seq.{ext-getD}
+use Rattle.table_check.proofs.Places.{same-decides}
 use Rattle.table_check.proofs.labels.same_bytes.Statement.{statement}
 use Rattle.table_check.proofs.labels.same_bytes.Tie as tie
-use Rattle.table_check.proofs.labels.same_bytes.Reads as reads
-use Rattle.table_check.proofs.labels.same_bytes.Lts as lts
 
 abbrev Inv-loop : tie.InvT-loop
 Inv-loop one other i₀ i = (i ≤ length one) × ((k : ℕ) → k < i → getD one k 0 ≡ getD other k 0)
@@ -17,35 +17,27 @@ Inv-loop one other i₀ i = (i ≤ length one) × ((k : ℕ) → k < i → getD 
 abbrev μ-loop : tie.MeasureT-loop
 μ-loop one other i₀ i = length one - i
 
--- src/labels.rt:45:5
 loop-holds : tie.Need-loop-holds Inv-loop μ-loop
 loop-holds c = (omega arith, below-none _)
 
--- src/labels.rt:46:12
 shared-slice-read-if1 : tie.Need-shared-slice-read-if1 Inv-loop μ-loop
 shared-slice-read-if1 c = omega arith
 
--- src/labels.rt:46:22
 shared-slice-read-if1-2 : tie.Need-shared-slice-read-if1-2 Inv-loop μ-loop
 shared-slice-read-if1-2 c = omega arith
 
--- src/labels.rt:47:13
 returns : tie.Need-returns Inv-loop μ-loop
 returns c = sym (same-decides _ _ .no (λ e. c .if1 .taken (ap (λ (xs : List ℕ). getD xs (c .before .before .before .before .loop .i) 0) e)))
 
--- src/labels.rt:49:9
 add-i : tie.Need-add-i Inv-loop μ-loop
 add-i c = omega arith
 
--- src/labels.rt:45:5
 loop-less : tie.Need-loop-less Inv-loop μ-loop
 loop-less c = omega arith
 
--- src/labels.rt:45:5
 loop-again : tie.Need-loop-again Inv-loop μ-loop
 loop-again c = (omega arith, below-more _ _ (c .before .before .before .before .loop .inv .1) (c .if1 .left))
 
--- src/labels.rt:40:1
 returns-2 : tie.Need-returns-2 Inv-loop μ-loop
 returns-2 c =
     let end : c .before .loop .i ≡ length (c .before .before .args .one .now) = omega arith in

@@ -1,80 +1,60 @@
+-- `statement_right` decides the line of a statement: each early return lacks one of its facts, the last tests have the others.
+-- Differences are taken, not sums, so that nothing wraps. Assumes nothing.
 use Prim.Native.Nat.{_-_}
-use Rattle.table_check.proofs.StatementLaws.{statement-decides}
-use Rattle.table_check.proofs.Decides.{last-equal, last-most}
 use mathlib.Core.Logic.{inl, inr, ⊎-elim}
 use mathlib.Core.Path.{sym}
 use native.Mathlib.Omega.{arith}
 use borrow.Author.Needs.{needs}
+use Rattle.table_check.proofs.Decides.{last-equal, last-most}
+use Rattle.table_check.proofs.StatementLaws.{statement-decides}
 use Rattle.table_check.proofs.statements.statement_right.Statement.{statement}
 use Rattle.table_check.proofs.statements.statement_right.Tie as tie
-use Rattle.table_check.proofs.statements.statement_right.Reads as reads
-use Rattle.table_check.proofs.statements.statement_right.Lts as lts
-use Rattle.table.proofs.statements.hyp_count.Reads as hyp-count-reads
-use Rattle.table.proofs.statements.hyp_start.Reads as hyp-start-reads
-use Rattle.table.proofs.statements.kind.Reads as kind-reads
-use Rattle.table.proofs.statements.label_length.Reads as label-length-reads
-use Rattle.table.proofs.statements.label_start.Reads as label-start-reads
 
--- src/statements.rt:34:9
 kind-requires : tie.Need-kind-requires
 kind-requires c κs = search needs
 
--- src/statements.rt:36:9
 returns : tie.Need-returns
 returns c = sym (statement-decides _ _ _ _ .no (λ right. omega arith))
 
--- src/statements.rt:38:8
 label-start-requires : tie.Need-label-start-requires
 label-start-requires c κs = search needs
 
--- src/statements.rt:39:9
 returns-2 : tie.Need-returns-2
 returns-2 c = sym (statement-decides _ _ _ _ .no (λ right. omega arith))
 
--- src/statements.rt:41:9
 label-length-requires : tie.Need-label-length-requires
 label-length-requires c κs = search needs
 
--- src/statements.rt:43:9
 returns-3 : tie.Need-returns-3
 returns-3 c = sym (statement-decides _ _ _ _ .no (λ right. omega arith))
 
--- src/statements.rt:46:9
 returns-4 : tie.Need-returns-4
 returns-4 c = sym (statement-decides _ _ _ _ .no (λ right. omega arith))
 
--- src/statements.rt:48:8
 sub-if5 : tie.Need-sub-if5
 sub-if5 c = search needs
 
--- src/statements.rt:49:9
 returns-5 : tie.Need-returns-5
 returns-5 c = sym (statement-decides _ _ _ _ .no (λ right. omega arith))
 
--- src/statements.rt:51:8
 hyp-start-requires : tie.Need-hyp-start-requires
 hyp-start-requires c κs = search needs
 
--- src/statements.rt:52:9
 returns-6 : tie.Need-returns-6
 returns-6 c = sym (statement-decides _ _ _ _ .no (λ right. omega arith))
 
--- src/statements.rt:54:9
 hyp-count-requires : tie.Need-hyp-count-requires
 hyp-count-requires c κs = search needs
 
--- src/statements.rt:56:9
 returns-7 : tie.Need-returns-7
 returns-7 c =
     last-equal (statement-decides _ _ _ _) (c .before .hyp-count .result) 0
     (λ none. record { kind-most = omega arith; label-start = omega arith; label-some = omega arith; label-most = omega arith; hyp-start = omega arith; hyp-none = inr (omega arith); label-inside = omega arith; hyp-inside = omega arith })
     (λ right. ⊎-elim (λ e. absurd (omega arith)) (λ e. omega arith) (right .hyp-none))
 
--- src/statements.rt:58:14
 sub-result : tie.Need-sub-result
 sub-result c = search needs
 
--- src/statements.rt:29:1
 returns-8 : tie.Need-returns-8
 returns-8 c =
     last-most (statement-decides _ _ _ _) (c .before .before .hyp-count .result) (c .before .before .before .before .before .before .before .before .before .before .before .before .before .before .before .before .before .args .references - c .before .before .before .before .before .before .before .before .before .before .before .before .before .before .before .before .before .args .taken .hyps)

@@ -1,20 +1,16 @@
-use borrow.Author.Tests.{not-true, not-false}
-use Rattle.table_check.proofs.StatementLaws.{statement-decides, statements-decide, taken-none, taken-next, line-wrong}
-use Rattle.table_check.proofs.Decides.{last-differs}
-use borrow.Author.Count.{below-none, below-more}
-use native.Mathlib.Nat.{not-suc-le-zero}
-use mathlib.Core.Bool.{not}
-use mathlib.Core.Path.{_≡_, refl, sym, ap, _∙_}
-use Rattle.table_check.specs.Right.{TakenBefore, StatementRight}
-use native.Mathlib.Omega.{arith}
+-- `statements_wrong` is test 2. Invariant: the running sums are those of the statements passed, and each of their lines is kept.
+-- A line that is not kept decides at once; after the loop the sums must be the whole places. Assumes nothing.
 use Prim.Native.Nat.{ℕ, _≤_, _<_, _-_}
+use mathlib.Core.Bool.{not}
+use mathlib.Core.Path.{_≡_, sym, ap, _∙_}
+use native.Mathlib.Omega.{arith}
+use borrow.Author.Count.{below-none, below-more}
+use borrow.Author.Tests.{not-true, not-false}
+use Rattle.table_check.specs.Right.{TakenBefore, StatementRight}
+use Rattle.table_check.proofs.Decides.{last-differs}
+use Rattle.table_check.proofs.StatementLaws.{statement-decides, statements-decide, taken-none, taken-next, line-wrong}
 use Rattle.table_check.proofs.statements.statements_wrong.Statement.{statement}
 use Rattle.table_check.proofs.statements.statements_wrong.Tie as tie
-use Rattle.table_check.proofs.statements.statements_wrong.Reads as reads
-use Rattle.table_check.proofs.statements.statements_wrong.Lts as lts
-use Rattle.table.proofs.statements.hyp_count.Reads as hyp-count-reads
-use Rattle.table.proofs.statements.label_length.Reads as label-length-reads
-use Rattle.table_check.proofs.statements.statement_right.Reads as statement-right-reads
 
 abbrev Inv-loop : tie.InvT-loop
 Inv-loop statements count references bytes taken₀ k₀ taken k =
@@ -31,54 +27,42 @@ here c = statement-decides _ _ _ _ .so (sym (c .before .statement-right .ensures
 done : (c : tie.After-loop Inv-loop μ-loop) → TakenBefore (c .before .before .before .args .statements .now) (c .before .before .before .args .references) (c .before .before .before .args .bytes) (c .before .before .before .args .count) (c .before .loop .taken .labels) (c .before .loop .taken .hyps)
 done c = let all : c .before .loop .k ≡ c .before .before .before .args .count = omega arith in rw all at (c .before .loop .inv .1)
 
--- src/statements.rt:68:5
 loop-holds : tie.Need-loop-holds Inv-loop μ-loop
 loop-holds c = (omega arith, taken-none _ _ _, below-none _)
 
--- src/statements.rt:69:13
 statement-right-requires : tie.Need-statement-right-requires Inv-loop μ-loop
 statement-right-requires c κs = omega arith
 
--- src/statements.rt:70:13
 returns : tie.Need-returns Inv-loop μ-loop
 returns c = ap not (sym (line-wrong _ _ _ _ (c .before .before .before .loop .k) (omega arith) (sym (c .before .statement-right .ensures) ∙ not-true _ (c .if1 .taken))))
 
--- src/statements.rt:73:36
 label-length-requires : tie.Need-label-length-requires Inv-loop μ-loop
 label-length-requires c κs = omega arith
 
--- src/statements.rt:73:21
 add-t11 : tie.Need-add-t11 Inv-loop μ-loop
 add-t11 c = omega (arith, here (c .before .before))
 
--- src/statements.rt:74:32
 hyp-count-requires : tie.Need-hyp-count-requires Inv-loop μ-loop
 hyp-count-requires c κs = omega arith
 
--- src/statements.rt:74:19
 add-t14 : tie.Need-add-t14 Inv-loop μ-loop
 add-t14 c = omega (arith, here (c .before .before .before .before))
 
--- src/statements.rt:76:9
 add-k : tie.Need-add-k Inv-loop μ-loop
 add-k c = omega arith
 
--- src/statements.rt:68:5
 loop-less : tie.Need-loop-less Inv-loop μ-loop
 loop-less c = omega arith
 
--- src/statements.rt:68:5
 loop-again : tie.Need-loop-again Inv-loop μ-loop
 loop-again c =
     let k = c .before .before .before .before .before .before .before .loop .k in
     let next = taken-next _ _ _ k _ _ (c .before .before .before .before .before .before .before .loop .inv .1) (here (c .before .before .before .before)) in
     (omega arith, rw (c .before .before .before .label-length .ensures, c .before .hyp-count .ensures) next, below-more _ k (c .before .before .before .before .before .before .before .loop .inv .2) (here (c .before .before .before .before)))
 
--- src/statements.rt:79:9
 returns-2 : tie.Need-returns-2 Inv-loop μ-loop
 returns-2 c = let taken = done (c .before .before) in ap not (sym (statements-decide _ _ _ _ .no (λ right. omega (arith, taken, right .labels-fill))))
 
--- src/statements.rt:62:1
 returns-3 : tie.Need-returns-3 Inv-loop μ-loop
 returns-3 c =
     let taken = done (c .before .before .before) in
