@@ -8,9 +8,7 @@ use native.Mathlib.Omega.{arith}
 use native.Mathlib.Decide.{ℕ-discrete}
 use lib.ListN.{length, set, length-set}
 use lib.Seq.{getD-set-same, getD-set-other}
-use Rattle.defs.specs.Table.{word}
-use Rattle.listing.specs.Arrays.{OnlyIn}
-use Rattle.listing.specs.Clear.{Inside, Cleared}
+use Rattle.listing.specs.Clear.{Cleared}
 
 pub record ClearedTo (from to at : ℕ) (ws₀ ws : List ℕ) : Type 0 where
   pub low : from ≤ at

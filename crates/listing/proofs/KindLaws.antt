@@ -4,16 +4,15 @@ use mathlib.Core.Path.{_≡_, refl, sym, ap, _∙_, subst}
 use mathlib.Core.Logic.{_≢_, _⊎_, inl, inr}
 use mathlib.Core.Bool.{Bool, true, false, not}
 use mathlib.Core.List.{List, [], _∷_, _++_, append-nil}
-use Prim.Native.Nat.{ℕ, zero, suc, _+_, _≤_, _<_}
+use Prim.Native.Nat.{ℕ, _+_, _≤_, _<_}
 use native.Mathlib.Omega.{arith}
 use native.Mathlib.Numerals.{add-one}
 use native.Mathlib.Decide.{ℕ-discrete}
 use lib.ListN.{length, getD, set, take, length-append, length-set, List·getD-append}
-use lib.Seq.{take-suc, take-length, length-take-le, getD-take, getD-set-same, getD-set-other, getD-append-seam}
+use lib.Seq.{take-suc, take-length, getD-set-same, getD-set-other, getD-append-seam}
 use lib.Dec.{eqb}
-use Rattle.laws.specs.Tools.{pick, keep}
-use Rattle.laws.specs.Lists.{boole, All, all-at, keep-append, eqb-yes, eqb-no}
-use Rattle.laws.specs.Counting.{keep-shorter}
+use Rattle.laws.specs.Tools.{keep}
+use Rattle.laws.specs.Lists.{boole, all-at, keep-append}
 use Rattle.defs.specs.Table.{word, kindIn}
 use Rattle.table.specs.Records.{StatementIn}
 use Rattle.listing.specs.Arrays.{OnlyIn}

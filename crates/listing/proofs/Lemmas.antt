@@ -4,18 +4,17 @@ use mathlib.Core.Path.{_≡_, refl, sym, ap, _∙_, subst}
 use mathlib.Core.Logic.{_≢_, _⊎_, inl, inr}
 use mathlib.Core.Bool.{Bool, true, false, not}
 use mathlib.Core.List.{List, [], _∷_, _++_, append-nil}
-use Prim.Native.Nat.{ℕ, suc, _+_, _*_, _≤_, _<_}
+use Prim.Native.Nat.{ℕ, _+_, _*_, _≤_, _<_}
 use native.Mathlib.Omega.{arith}
-use native.Mathlib.Decide.{ℕ-discrete, decLt}
+use native.Mathlib.Decide.{ℕ-discrete}
 use lib.ListN.{length, getD, set, length-append, length-set, List·getD-append}
 use lib.Seq.{getD-set-same, getD-set-other, getD-append-seam}
-use lib.Dec.{eqb}
 use Rattle.laws.specs.Tools.{pick, keep, member, place, count, firsts}
-use Rattle.laws.specs.Lists.{boole, All, all-keep, all-append, keep-append, eqb-no}
-use Rattle.laws.specs.Sums.{bit, bit-cases, count-append, count-self, count-all, count-most}
-use Rattle.laws.specs.Counting.{keep-shorter, firsts-known, firsts-new, firsts-few, count-firsts}
-use Rattle.defs.specs.Table.{word, maxWord, maxStatements}
-use Rattle.listing.specs.Arrays.{others, Counted, OnlyIn, Ready, OneMore}
+use Rattle.laws.specs.Lists.{All, all-keep, all-append, keep-append}
+use Rattle.laws.specs.Sums.{bit-cases, count-append, count-most}
+use Rattle.laws.specs.Counting.{keep-shorter, firsts-known, firsts-new, firsts-few}
+use Rattle.defs.specs.Table.{word, maxWord}
+use Rattle.listing.specs.Arrays.{others, Counted, Ready, OneMore}
 
 -- ---- the statements that are not in the theorem's list
 

@@ -2,18 +2,18 @@
 -- What stands after the passes is put together from what each of them says.
 use mathlib.Core.Path.{_≡_, refl, sym, ap, _∙_, subst}
 use mathlib.Core.Logic.{_⊎_, inl, inr}
-use mathlib.Core.Bool.{Bool, true, false, not}
+use mathlib.Core.Bool.{Bool, true, false}
 use mathlib.Core.List.{List, [], _∷_, _++_}
-use Prim.Native.Nat.{ℕ, zero, suc, _+_, _*_, _-_, _≤_, _<_}
+use Prim.Native.Nat.{ℕ, zero, _+_, _*_, _-_, _≤_, _<_}
 use native.Mathlib.Omega.{arith}
 use native.Mathlib.Decide.{decLt}
 use lib.ListN.{length, getD, length-append, List·getD-append}
 use lib.Seq.{ext-getD, getD-append-add}
 use lib.Dec.{eqb}
-use Rattle.laws.specs.Tools.{pick, part, keep, member, place, count, firsts, addNew}
+use Rattle.laws.specs.Tools.{part, keep, firsts, addNew}
 use Rattle.laws.specs.Lists.{boole, All, all-map, all-keep, part-at, part-length}
 use Rattle.laws.specs.Counting.{firsts-all, firsts-few}
-use Rattle.defs.specs.Table.{word, maxWord, maxStatements, stmtSize, kindIn}
+use Rattle.defs.specs.Table.{word, kindIn}
 use Rattle.defs.specs.Steps.{Step, stepSize, flat, normalStmts}
 use Rattle.table.specs.Records.{StatementIn}
 use Rattle.listing.specs.Arrays.{others, OnlyIn, Counted, StepsReady, AllUsed}

@@ -2,18 +2,16 @@
 -- The steps lie before the arrays, so that they stay as they were.
 use mathlib.Core.Path.{_≡_, refl, sym, ap, _∙_, subst}
 use mathlib.Core.Logic.{_≢_, inl}
-use mathlib.Core.Bool.{Bool, true, false}
 use mathlib.Core.List.{List, [], _∷_, _++_, map, append-nil}
-use Prim.Native.Nat.{ℕ, zero, suc, _+_, _*_, _≤_, _<_}
+use Prim.Native.Nat.{ℕ, _+_, _*_, _≤_, _<_}
 use native.Mathlib.Omega.{arith}
 use native.Mathlib.Numerals.{add-one}
 use native.Mathlib.Decide.{ℕ-discrete}
 use lib.ListN.{length, getD, take, drop, take-append-drop, length-map}
 use lib.Seq.{take-suc, take-length, length-take-le}
-use lib.Dec.{eqb}
 use Rattle.laws.specs.Tools.{part, keep}
 use Rattle.laws.specs.Lists.{boole, All, all-split, eqb-yes, eqb-no, keep-append, map-append, part-at}
-use Rattle.defs.specs.Table.{word, maxWord, maxStatements}
+use Rattle.defs.specs.Table.{word}
 use Rattle.defs.specs.Steps.{Step, stepSize, flat, stepWords, isNormal, normalStmts}
 use Rattle.defs.specs.Laws.{flat-at}
 use Rattle.listing.specs.Arrays.{others, Counted, OnlyIn, Ready, OneMore, StepUsed, StepsReady, AllUsed}

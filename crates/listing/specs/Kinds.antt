@@ -1,6 +1,5 @@
 -- The listed statements of one kind, kept in order: assertions, or all others.
 use mathlib.Core.Path.{_≡_}
-use mathlib.Core.Logic.{_⊎_}
 use mathlib.Core.Bool.{Bool, true, false, not}
 use mathlib.Core.List.{List}
 use Prim.Native.Nat.{ℕ, _+_, _≤_, _<_}
@@ -8,7 +7,7 @@ use lib.ListN.{length, getD, set}
 use lib.Dec.{eqb}
 use Rattle.laws.specs.Tools.{pick, keep}
 use Rattle.laws.specs.Lists.{All}
-use Rattle.defs.specs.Table.{word, stmtSize, kindIn}
+use Rattle.defs.specs.Table.{word, kindIn}
 use Rattle.table.specs.Records.{StatementIn}
 use Rattle.listing.specs.Arrays.{OnlyIn}
 

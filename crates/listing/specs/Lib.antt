@@ -3,3 +3,4 @@ pub mod Numbers
 pub mod Kinds
 pub mod Clear
 pub mod Listing
+pub mod Labels

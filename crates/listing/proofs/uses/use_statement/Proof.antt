@@ -57,7 +57,7 @@ same-length c = search needs
 
 -- src/uses.rt:19:9
 returns-2 : tie.Need-returns-2
-returns-2 c = more-known _ _ _ _ _ (c .before .before .before .before .pre .room) (c .before .before .before .before .pre .inside) (c .before .before .if1 .left) (c .if2 .taken)
+returns-2 c = more-known _ _ _ _ _ (c .before .before .before .before .pre .room) (c .before .before .before .before .pre .inside) (c .before .before .if1 .left) (λ e. omega (arith, c .if2 .taken))
 
 -- src/uses.rt:21:34
 cast-work : tie.Need-cast-work
@@ -73,19 +73,19 @@ add-work-2 c = search needs
 
 -- src/uses.rt:21:10
 add-work-3 : tie.Need-add-work-3
-add-work-3 c = omega (arith, new-fits _ _ _ _ _ (c .before .before .before .before .pre) (c .before .before .if1 .left) (c .if2 .left))
+add-work-3 c = omega (arith, new-fits _ _ _ _ _ (c .before .before .before .before .pre) (c .before .before .if1 .left) (omega (arith, c .if2 .left)))
 
 -- src/uses.rt:21:5
 mul-work-3 : tie.Need-mul-work-3
-mul-work-3 c = omega (arith, new-fits _ _ _ _ _ (c .before .before .before .before .pre) (c .before .before .if1 .left) (c .if2 .left))
+mul-work-3 c = omega (arith, new-fits _ _ _ _ _ (c .before .before .before .before .pre) (c .before .before .if1 .left) (omega (arith, c .if2 .left)))
 
 -- src/uses.rt:21:5
 slice-write-work-2 : tie.Need-slice-write-work-2
-slice-write-work-2 c = simp length-set (omega (arith, new-fits _ _ _ _ _ (c .before .before .before .before .pre) (c .before .before .if1 .left) (c .if2 .left), c .before .before .before .before .pre .room))
+slice-write-work-2 c = simp length-set (omega (arith, new-fits _ _ _ _ _ (c .before .before .before .before .pre) (c .before .before .if1 .left) (omega (arith, c .if2 .left)), c .before .before .before .before .pre .room))
 
 -- src/uses.rt:22:5
 add-result : tie.Need-add-result
-add-result c = omega (arith, new-fits _ _ _ _ _ (c .before .before .before .before .pre) (c .before .before .if1 .left) (c .if2 .left))
+add-result c = omega (arith, new-fits _ _ _ _ _ (c .before .before .before .before .pre) (c .before .before .if1 .left) (omega (arith, c .if2 .left)))
 
 -- src/uses.rt:8:1
 same-length-2 : tie.Need-same-length-2
@@ -93,7 +93,7 @@ same-length-2 c = search needs
 
 -- src/uses.rt:8:1
 returns-3 : tie.Need-returns-3
-returns-3 c = more-new _ _ _ _ _ (c .before .before .before .before .pre .room) (c .before .before .before .before .pre .inside) (new-fits _ _ _ _ _ (c .before .before .before .before .pre) (c .before .before .if1 .left) (c .if2 .left)) (c .before .before .if1 .left) (c .if2 .left)
+returns-3 c = more-new _ _ _ _ _ (c .before .before .before .before .pre .room) (c .before .before .before .before .pre .inside) (new-fits _ _ _ _ _ (c .before .before .before .before .pre) (c .before .before .if1 .left) (omega (arith, c .if2 .left))) (c .before .before .if1 .left) (omega (arith, c .if2 .left))
 
 pub use-statement-spec : {M : Type 1} → statement M
 use-statement-spec =

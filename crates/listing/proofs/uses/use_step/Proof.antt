@@ -18,7 +18,7 @@ slice-read-if1 c = search needs
 
 -- src/uses.rt:33:9
 returns : tie.Need-returns
-returns c = record { reference = λ h. (refl, refl); normal = λ h. absurd (c .if1 .taken h) }
+returns c = record { reference = λ h. (refl, refl); normal = λ h. absurd (omega (arith, c .if1 .taken)) }
 
 -- src/uses.rt:35:31
 add-wide : tie.Need-add-wide
@@ -38,7 +38,7 @@ wide-requires c κs = search needs
 
 -- src/uses.rt:36:5
 use-statement-requires : tie.Need-use-statement-requires
-use-statement-requires c κs = rw (c .before .wide .ensures) (c .before .before .before .before .before .before .pre .ready (c .before .before .before .if1 .left))
+use-statement-requires c κs = rw (c .before .wide .ensures) (c .before .before .before .before .before .before .pre .ready (omega (arith, c .before .before .before .if1 .left)))
 
 -- src/uses.rt:28:1
 same-length : tie.Need-same-length
@@ -46,7 +46,7 @@ same-length c = search needs
 
 -- src/uses.rt:28:1
 returns-2 : tie.Need-returns-2
-returns-2 c = record { reference = λ h. absurd (h (c .before .before .before .before .before .before .if1 .left)); normal = λ h. rw (c .before .before .before .before .wide .ensures) at (c .before .before .use-statement .ensures) }
+returns-2 c = record { reference = λ h. absurd (h (omega (arith, c .before .before .before .before .before .before .if1 .left))); normal = λ h. rw (c .before .before .before .before .wide .ensures) at (c .before .before .use-statement .ensures) }
 
 pub use-step-spec : {M : Type 1} → statement M
 use-step-spec =

@@ -1,0 +1,61 @@
+/* Bulonkeri: the proved printer and reader of Metamath proofs, over C.
+ *
+ * Link with the archive that `rt staticlib capi` writes (target/staticlib/libcapi.a). Every function is proved, in Rattle, to give
+ * the answer that docs/CONTRACTS.md states, on any input: any words, any bytes, any lengths.
+ *
+ * A slice is a pointer and a number of elements. The caller owns every slice; the library keeps none, allocates nothing and has no
+ * state, so calls from several threads do not meet as long as the slices that they may write are apart. A pointer is valid for as many
+ * elements as its length says, also where that is 0; slices that are written (`out`, `written`) overlap no other slice.
+ *
+ * `words` and `labels` are a table: ten header words, then statements of five words, hypothesis references, entries of three words and
+ * child references; the labels lie one after another in `labels`. See README.md.
+ *
+ * The result is a number: 0 done, or the first refusal that applies, in the order that each function names.
+ *
+ *    1  fewer than 10 words, a count over its limit, a wrong offset or length
+ *    2  a statement record is wrong, or labels or hypotheses do not fill their place exactly
+ *    3  a label byte other than letter, digit, '.', '-', '_'; or two equal labels
+ *    4  a hypothesis reference out of range, of kind 0, or repeated in its list
+ *    5  an entry record is wrong, or the children do not fill their place exactly
+ *    6  a child not below its parent
+ *    7  the theorem is not a statement of kind 0, or QED is no entry
+ *   10  the theorem's list has a floating after an essential
+ *   15  output does not fit
+ *   16  malformed step list or label list
+ *   17  malformed letters
+ *
+ * `*written` gets the number of elements written, 0 on a refusal. A refusal leaves `out` as it was; success leaves what lies past the
+ * end of the result as it was. */
+#ifndef BULONKERI_H
+#define BULONKERI_H
+
+#include <stdbool.h>
+#include <stddef.h>
+#include <stdint.h>
+
+#ifdef __cplusplus
+extern "C" {
+#endif
+
+/* The number with which a table is refused, 0 for a good one: tests 1 to 7. */
+uint32_t bulonkeri_check(const uint32_t *words, size_t words_length, const uint8_t *labels, size_t labels_length);
+
+/* How many child references name each entry, over all entries. Tests 1 to 7, 15 (room for one number an entry). */
+uint32_t bulonkeri_parents(const uint32_t *words, size_t words_length, const uint8_t *labels, size_t labels_length,
+                           uint32_t *out, size_t out_length, uint64_t *written);
+
+/* The fewest child edges from QED to each entry, 65535 where there is no way. Tests 1 to 7, 15. */
+uint32_t bulonkeri_distances(const uint32_t *words, size_t words_length, const uint8_t *labels, size_t labels_length,
+                             uint16_t *out, size_t out_length, uint64_t *written);
+
+/* The step list, five words a step, that letters with their label list spell. Tests 1 to 7, 10, 16 (a list item that is no statement,
+ * is in the theorem's list, or stands twice), 17, 15. No letters give no steps. */
+uint32_t bulonkeri_decode(const uint32_t *words, size_t words_length, const uint8_t *labels, size_t labels_length,
+                          const uint32_t *list, size_t list_length, const uint8_t *letters, size_t letters_length,
+                          uint32_t *out, size_t out_length, uint64_t *written);
+
+#ifdef __cplusplus
+}
+#endif
+
+#endif
