@@ -1,0 +1,188 @@
+use mathlib.Core.Path.{_≡_, refl, sym, ap, _∙_}
+use mathlib.Core.List.{List}
+use Prim.Native.Nat.{ℕ, _+_, _-_, _≤_, _<_}
+use native.Mathlib.Omega.{arith}
+use lib.ListN.{length, replicate}
+use Rattle.laws.specs.Tools.{zeroed}
+use Rattle.defs.specs.Check.{tableRefusal}
+use Rattle.defs.specs.Refusals.{need32}
+use Rattle.defs.specs.Laws.{good as good-table}
+use Rattle.defs.specs.Checked.{HeaderOk, header}
+use Rattle.walk.specs.Packed.{held}
+use Rattle.lists.proofs.AnswerLaws.{table-refused, work-short, no-room, done}
+use Rattle.lists.proofs.ListLaws.{Stored, may-pack, stored, copied}
+use borrow.Author.Needs.{needs}
+use Rattle.lists.proofs.packed.packed_list.Statement.{statement}
+use Rattle.lists.proofs.packed.packed_list.Tie as tie
+use Rattle.lists.proofs.packed.packed_list.Reads as reads
+use Rattle.lists.proofs.packed.packed_list.Lts as lts
+use Rattle.lists.proofs.answers.refused.Reads as refused-reads
+use Rattle.slices.proofs.copy.copy_to.Reads as copy-to-reads
+use Rattle.slices.proofs.fill.fill.Reads as fill-reads
+use Rattle.table.proofs.header.read_header.Reads as read-header-reads
+use Rattle.table.proofs.numbers.wide.Reads as wide-reads
+use Rattle.table.proofs.sections.child_section.Reads as child-section-reads
+use Rattle.table.proofs.sections.entry_section.Reads as entry-section-reads
+use Rattle.table_check.proofs.check.Reads as check-reads
+use Rattle.walk.proofs.packed.pack.Reads as pack-reads
+use Rattle.walk.proofs.room.working_words.Reads as working-words-reads
+
+-- past the check the table is good
+good : (c : tie.Else1) → tableRefusal (c .before .before .before .before .before .before .args .words .now) (c .before .before .before .before .before .before .args .labels .now) ≡ 0
+good c = sym (c .before .check .ensures) ∙ c .if1 .left
+
+right : (c : tie.Else1) → HeaderOk (c .before .before .before .before .before .before .args .words .now)
+right c = header (c .before .before .before .before .before .before .args .words .now) (good-table _ _ (good c) .ok1)
+
+-- past test 14 the working slice is long enough
+enough : (c : tie.Else2) → need32 (c .before .before .before .before .before .before .before .before .args .words .now) ≤ length (c .before .before .before .before .before .before .before .before .args .work .now)
+enough c = omega (arith, c .before .working-words .ensures, c .if2 .left)
+
+-- the packed list stands in it
+packed : (c : tie.After-wide) → Stored (c .before .before .before .before .before .before .before .before .before .before .before .before .before .before .before .before .args .words .now) (c .before .before .before .before .before .before .before .before .before .before .before .before .before .before .before .before .args .explicit) (c .wide .result + 1) (held (c .before .before .before .pack .last .1 .1 .0) (c .before .before .before .pack .result))
+packed c =
+    stored _ _ (good (c .before .before .before .before .before .before .before .before .before .before)) _ _ _ _ (c .before .before .before .before .before .before .entry-section .ensures) (c .before .before .before .before .before .child-section .ensures) (c .before .before .before .before .before .before .before .read-header .ensures .qed-is) _
+    (ap (λ (n : ℕ). n + 1) (c .wide .ensures ∙ c .before .before .before .before .before .before .before .read-header .ensures .entries-is)) _ (c .before .before .before .pack .ensures)
+
+-- what the last step leaves of it
+wiped : (c : tie.After-wide) (end : List ℕ) → end ≡ replicate (length (c .before .before .before .pack .last .1 .1 .0)) 0 → end ≡ zeroed (c .before .before .before .before .before .before .before .before .before .before .before .before .before .before .before .before .args .work .now)
+wiped c end is = is ∙ ap (λ (n : ℕ). replicate n 0) (c .before .before .before .pack .kept .1 .1 .0)
+
+-- src/packed.rt:29:9
+check-requires : tie.Need-check-requires
+check-requires c κs = search needs
+
+-- src/packed.rt:31:9
+refused-requires : tie.Need-refused-requires
+refused-requires c κs = search needs
+
+-- src/packed.rt:31:9
+returns : tie.Need-returns
+returns c = table-refused _ _ _ _ _ _ _ _ (c .refused .ensures .0 ∙ c .before .before .check .ensures) (λ z. c .before .if1 .taken (c .before .before .check .ensures ∙ z)) (c .refused .ensures .1)
+
+-- src/packed.rt:33:21
+working-words-requires : tie.Need-working-words-requires
+working-words-requires c κs = right c
+
+-- src/packed.rt:34:9
+refused-requires-2 : tie.Need-refused-requires-2
+refused-requires-2 c κs = search needs
+
+-- src/packed.rt:34:9
+returns-2 : tie.Need-returns-2
+returns-2 c = work-short _ _ _ _ _ _ (good (c .before .before .before)) _ _ (c .refused2 .ensures .0) (c .refused2 .ensures .1) (omega (arith, c .before .before .working-words .ensures, c .before .if2 .taken))
+
+-- src/packed.rt:36:9
+read-header-requires : tie.Need-read-header-requires
+read-header-requires c κs = right (c .before .before) .ten
+
+-- src/packed.rt:37:9
+entry-section-requires : tie.Need-entry-section-requires
+entry-section-requires c κs = right (c .before .before .before)
+
+-- src/packed.rt:38:9
+child-section-requires : tie.Need-child-section-requires
+child-section-requires c κs = right (c .before .before .before .before)
+
+-- src/packed.rt:39:9
+pack-requires : tie.Need-pack-requires
+pack-requires c κs = may-pack _ _ (good (c .before .before .before .before .before .before)) _ _ _ _ (c .before .before .entry-section .ensures) (c .before .child-section .ensures) (c .before .before .before .read-header .ensures .qed-is) _ (enough (c .before .before .before .before))
+
+-- src/packed.rt:40:17
+wide-requires : tie.Need-wide-requires
+wide-requires c κs = search needs
+
+-- src/packed.rt:40:17
+add-start : tie.Need-add-start
+add-start c = search needs
+
+-- src/packed.rt:41:18
+sub-length : tie.Need-sub-length
+sub-length c = packed c .begins
+
+-- src/packed.rt:43:9
+fill-requires : tie.Need-fill-requires
+fill-requires c κs = search needs
+
+-- src/packed.rt:44:9
+refused-requires-3 : tie.Need-refused-requires-3
+refused-requires-3 c κs = search needs
+
+-- src/packed.rt:44:9
+same-length : tie.Need-same-length
+same-length c = search needs
+
+-- src/packed.rt:44:9
+returns-3 : tie.Need-returns-3
+returns-3 c =
+    let v = c .before .before .before .before .before .before in
+    no-room _ _ _ _ _ _ (good (v .before .before .before .before .before .before .before .before .before .before)) (enough (v .before .before .before .before .before .before .before .before)) refl _ _ _ (c .refused3 .ensures .0) (c .refused3 .ensures .1) (wiped v _ (c .before .before .before .fill .ensures)) (omega (arith, packed v .long, c .before .before .before .before .before .if3 .taken))
+
+-- src/packed.rt:46:13
+mul-copy-to : tie.Need-mul-copy-to
+mul-copy-to c = search needs
+
+-- src/packed.rt:46:13
+sub-copy-to : tie.Need-sub-copy-to
+sub-copy-to c = packed (c .before) .begins
+
+-- src/packed.rt:46:13
+part-copy-to-start : tie.Need-part-copy-to-start
+part-copy-to-start c = packed (c .before .before) .begins
+
+-- src/packed.rt:46:13
+part-copy-to-end : tie.Need-part-copy-to-end
+part-copy-to-end c = omega (arith, packed (c .before .before) .ends, enough (c .before .before .before .before .before .before .before .before .before .before), c .before .before .before .before .before .pack .kept .1 .1 .0)
+
+-- src/packed.rt:46:5
+copy-to-requires : tie.Need-copy-to-requires
+copy-to-requires c κs = search needs
+
+-- src/packed.rt:47:5
+fill-requires-2 : tie.Need-fill-requires-2
+fill-requires-2 c κs = search needs
+
+-- src/packed.rt:19:1
+same-length-2 : tie.Need-same-length-2
+same-length-2 c = search needs
+
+-- src/packed.rt:19:1
+same-length-3 : tie.Need-same-length-3
+same-length-3 c = search needs
+
+-- src/packed.rt:19:1
+returns-4 : tie.Need-returns-4
+returns-4 c =
+    let v = c .before .before .before .before .before .before .before .before .before .before .before in
+    done _ _ _ _ _ _ (good (v .before .before .before .before .before .before .before .before .before .before)) (enough (v .before .before .before .before .before .before .before .before)) refl _ _ _ (packed v .long) (wiped v _ (c .before .before .fill2 .ensures)) (copied _ _ _ _ (packed v .front) (c .before .before .before .before .before .before .copy-to .ensures)) (omega (arith, packed v .long, c .before .before .before .before .before .before .before .before .before .before .if3 .left))
+
+pub packed-list-spec : {M : Type 1} → statement M
+packed-list-spec =
+    tie.close
+    (tie.spec
+    check-requires
+    refused-requires
+    returns
+    working-words-requires
+    refused-requires-2
+    returns-2
+    read-header-requires
+    entry-section-requires
+    child-section-requires
+    pack-requires
+    wide-requires
+    add-start
+    sub-length
+    fill-requires
+    refused-requires-3
+    same-length
+    returns-3
+    mul-copy-to
+    sub-copy-to
+    part-copy-to-start
+    part-copy-to-end
+    copy-to-requires
+    fill-requires-2
+    same-length-2
+    same-length-3
+    returns-4)

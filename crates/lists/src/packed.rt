@@ -1,0 +1,49 @@
+// The packed list of a table: tests 1 to 7, 14, 15.
+use crate::answers::refused;
+use slices::copy::copy_to;
+use slices::fill::fill;
+use table::Written;
+use table::header::read_header;
+use table::numbers::wide;
+use table::sections::child_section;
+use table::sections::entry_section;
+use table_check::check;
+use walk::packed::pack;
+use walk::room::working_words;
+ghost use mathlib.Core.Path.{_≡_};
+ghost use mathlib.Core.Bool.{true};
+ghost use Rattle.defs.specs.Outcome.{stepListOutcome};
+ghost use Rattle.lists.specs.Answers.{written};
+
+// The steps are walked into the working slice, so that 15 is known before the output is touched.
+pub fn packed_list(
+    words: &[u32],
+    labels: &[u8],
+    explicit: bool,
+    work: &mut [u32],
+    out: &mut [u32],
+) -> Written
+    ensures { λ r. ⌜ written (r .number) (r .length) (now (out .exit)) (now (work .exit))
+        ≡ stepListOutcome (now (words .entry)) (now (labels .entry)) true explicit (now (work .entry)) (now (out .entry)) ⌝ }
+{
+    let number = check(words, labels);
+    if number != 0 {
+        return refused(number);
+    }
+    if work.len() < working_words(words) {
+        return refused(14);
+    }
+    let header = read_header(words);
+    let entries = entry_section(words);
+    let children = child_section(words);
+    let end = pack(entries, children, work, explicit, header.qed);
+    let start = wide(header.entries) + 1;
+    let length = end - start;
+    if out.len() < length {
+        fill(work, 0);
+        return refused(15);
+    }
+    copy_to(&work[start..end], out, 0);
+    fill(work, 0);
+    Written { number: 0, length }
+}

@@ -1,0 +1,5 @@
+-- What the proofs of several functions use.
+mod StepLaws
+mod PackedLaws
+mod NormalLaws
+mod MarkLaws

@@ -1,0 +1,7 @@
+pub mod Entries
+pub mod Hyps
+pub mod Steps
+pub mod Marks
+pub mod Packed
+pub mod Normal
+pub mod Tables

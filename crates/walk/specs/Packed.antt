@@ -1,0 +1,131 @@
+-- The packed walk in the working slice: how many marks are given; one word an entry (0 plain, 1 to be marked, m + 1 marked m); then the steps,
+-- five words each.
+use mathlib.Core.Path.{_≡_}
+use mathlib.Core.Bool.{Bool}
+use mathlib.Core.List.{List, []}
+use Prim.Native.Nat.{ℕ, suc, _+_, _*_, _-_, _≤_, _<_}
+use lib.ListN.{length, set, replicate}
+use lib.Dec.{eqb, ltb}
+use Rattle.laws.specs.Tools.{pick, part}
+use Rattle.defs.specs.Table.{word, maxWord}
+use Rattle.defs.specs.Graph.{Graph, graphIn}
+use Rattle.defs.specs.Counts.{parents}
+use Rattle.defs.specs.Steps.{stepSize, flat, Walk, markOf, getsMark, visit, packedSteps}
+use Rattle.counts.specs.Parents.{Filled}
+use Rattle.lengths.specs.Bound.{afterChildren}
+use Rattle.walk.specs.Entries.{size, Entries}
+use Rattle.walk.specs.Hyps.{parentOf, indexOf}
+use Rattle.walk.specs.Steps.{step, withStep}
+use Rattle.walk.specs.declared.hyps.ParentHyp.{ParentHyp}
+
+-- ---- the words, with where the next step goes
+
+pub record Held : Type 0 where
+  pub words : List ℕ
+  pub end : ℕ
+
+abbrev pub held : List ℕ → ℕ → Held
+held w end = record { words = w; end = end }
+
+-- the place of an entry's word, and where the steps of n entries begin
+abbrev pub entryAt : ℕ → ℕ
+entryAt e = e + 1
+
+abbrev pub stepsFrom : ℕ → ℕ
+stepsFrom n = n + 1
+
+-- a back reference to entry e
+unfoldable pub refers : (e parent index : ℕ) → Held → Held
+refers e parent index h = held (withStep (h .words) (h .end) (step (word (h .words) (entryAt e) - 1) 0 0 parent index)) (h .end + stepSize)
+
+-- the step of entry e itself: with the next mark, where its word says that it gets one
+unfoldable pub finishes : (e statement parent index : ℕ) → Held → Held
+finishes e statement parent index h =
+    let next : ℕ = word (h .words) 0 + 1 in
+    pick (eqb (word (h .words) (entryAt e)) 0)
+    (held (withStep (h .words) (h .end) (step 0 0 statement parent index)) (h .end + stepSize))
+    (held (withStep (set (set (h .words) 0 next) (entryAt e) (next + 1)) (h .end) (step 0 next statement parent index)) (h .end + stepSize))
+
+-- what either asks: the entry's word and room for a step, a mark more and the parent word
+pub record Room (e : ℕ) (p : ParentHyp) (h : Held) : Type 0 where
+  pub entry-in : entryAt e < length (h .words)
+  pub step-in : h .end + stepSize ≤ length (h .words)
+  pub mark-fits : word (h .words) 0 + 2 ≤ maxWord
+  pub hyp-fits : parentOf p ≤ maxWord
+
+-- ---- the walk of document 01 that they hold
+
+-- the walk t of n entries
+pub record Stands (g : Graph) (counts : List ℕ) (n : ℕ) (h : Held) (t : Walk) : Type 0 where
+  pub marked : (e : ℕ) → e < n → getsMark g counts e ≡ ltb 0 (word (h .words) (entryAt e))
+  pub places : length (t .marks) ≡ n
+  pub marks : (e : ℕ) → e < n → markOf t e ≡ word (h .words) (entryAt e) - 1
+  pub given-is : word (h .words) 0 ≡ t .given
+  pub end-is : h .end ≡ stepsFrom n + stepSize * length (t .out)
+  pub steps : part (stepsFrom n) (stepSize * length (t .out)) (h .words) ≡ flat (t .out)
+
+-- a walk that has room: at most one step more than there are child references, and a mark for each entry
+pub record Fits (es cs : List ℕ) (t : Walk) : Type 0 where
+  pub few-steps : length (t .out) ≤ length cs + 1
+  pub few-marks : t .given ≤ size es
+
+-- the visit of entry e from t
+abbrev pub visitFrom : (es cs counts : List ℕ) (explicit : Bool) (e : ℕ) (p : ParentHyp) (t : Walk) → Walk
+visitFrom es cs counts explicit e p t = visit (graphIn es cs) counts explicit (suc e) e (parentOf p) (indexOf p) t
+
+-- the words hold a walk from which entry e can be visited, with the parent hypothesis p
+pub record Visitable (es cs : List ℕ) (explicit : Bool) (e : ℕ) (p : ParentHyp) (h : Held) : Type 0 where
+  pub entries : Entries es cs
+  pub inside : e < size es
+  pub hyp-fits : parentOf p ≤ maxWord
+  pub long : stepsFrom (size es) + stepSize * (length cs + 1) ≤ length (h .words)
+  pub counts : List ℕ
+  pub from : Walk
+  pub stands : Stands (graphIn es cs) counts (size es) h from
+  pub fits : Fits es cs (visitFrom es cs counts explicit e p from)
+
+-- and it has no mark yet, so that its children come first
+pub record Ready (es cs : List ℕ) (explicit : Bool) (e : ℕ) (h : Held) : Type 0 where
+  pub hyp : ParentHyp
+  pub visitable : Visitable es cs explicit e hyp h
+  pub new : word (h .words) (entryAt e) ≤ 1
+
+-- whatever walk the words held, they hold it after the first k children of entry e
+unfoldable pub Listed : (es cs : List ℕ) (explicit : Bool) (e k : ℕ) (h h′ : Held) → Type 0
+Listed es cs explicit e k h h′ =
+    (counts : List ℕ) (from : Walk) → Stands (graphIn es cs) counts (size es) h from
+    → Stands (graphIn es cs) counts (size es) h′ (afterChildren (graphIn es cs) counts explicit e e k from)
+
+-- after the visit of entry e
+unfoldable pub Visited : (es cs : List ℕ) (explicit : Bool) (e : ℕ) (p : ParentHyp) (h h′ : Held) → Type 0
+Visited es cs explicit e p h h′ =
+    (counts : List ℕ) (from : Walk) → Stands (graphIn es cs) counts (size es) h from
+    → Stands (graphIn es cs) counts (size es) h′ (visitFrom es cs counts explicit e p from)
+
+-- ---- the whole walk
+
+-- no marks and no steps
+abbrev pub walkStart : ℕ → Walk
+walkStart n = record { marks = replicate n 0; given = 0; out = [] }
+
+-- the sections of a table whose child lists fill their section
+pub record Packing (es cs : List ℕ) : Type 0 where
+  pub entries : Entries es cs
+  pub filled : Filled es cs (size es)
+
+-- the words before the walk
+pub record Begun (es cs : List ℕ) (h : Held) : Type 0 where
+  pub stands : Stands (graphIn es cs) (parents (graphIn es cs) (size es)) (size es) h (walkStart (size es))
+  pub unmarked : (e : ℕ) → e < size es → word (h .words) (entryAt e) ≤ 1
+
+-- room for the packed list in so many words
+pub record Packable (es cs : List ℕ) (explicit : Bool) (q room : ℕ) : Type 0 where
+  pub packing : Packing es cs
+  pub inside : q < size es
+  pub long : stepsFrom (size es) + stepSize * (length cs + 1) ≤ room
+  pub fits : Fits es cs (visit (graphIn es cs) (parents (graphIn es cs) (size es)) explicit (suc q) q 0 0 (walkStart (size es)))
+
+-- the words hold the packed list from QED
+pub record Packed (es cs : List ℕ) (explicit : Bool) (q : ℕ) (h : Held) : Type 0 where
+  pub end-is : h .end ≡ stepsFrom (size es) + length (flat (packedSteps (graphIn es cs) (size es) q explicit))
+  pub steps : part (stepsFrom (size es)) (length (flat (packedSteps (graphIn es cs) (size es) q explicit))) (h .words) ≡ flat (packedSteps (graphIn es cs) (size es) q explicit)
