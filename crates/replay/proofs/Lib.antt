@@ -1,0 +1,7 @@
+mod AnswerLaws
+mod KindLaws
+mod OneStepLaws
+mod RunLaws
+mod StackLaws
+mod StepLaws
+mod TurnLaws

@@ -1,0 +1,2 @@
+mod LookupLaws
+mod PlaceLaws
