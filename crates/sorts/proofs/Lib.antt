@@ -1,0 +1,2 @@
+-- Laws that speak of no function.
+pub mod Sorting
