@@ -55,11 +55,11 @@ module _ (out : List ℕ) where
 
 -- the same where the first reading was lent the empty slice
 module _ (out ys : List ℕ) (z : length ys ≡ 0) (o : Option (List Step)) (r : Decoded) (before after : List ℕ) (w : Wrote o r before after) where
-  pub read-17 : r ≡ told.Refused → answerOne 17 0 [] (ys ++ out) ≡ lettersOutcome o out
-  read-17 e = rw (none-lent ys out z) (refused out o before after (rw e at w))
+  pub read-17 : (k : ℕ) → k ≡ 17 → r ≡ told.Refused → answerOne k 0 [] (ys ++ out) ≡ lettersOutcome o out
+  read-17 k is e = rw (is, none-lent ys out z) (refused out o before after (rw e at w))
 
-  pub read-15 : (n : ℕ) → r ≡ told.Steps n → length (ys ++ out) / stepSize < n → answerOne 15 0 [] (ys ++ out) ≡ lettersOutcome o out
-  read-15 n e h = rw (none-lent ys out z) (full out o n before after (rw e at w) (rw (none-lent ys out z) at h))
+  pub read-15 : (k n : ℕ) → k ≡ 15 → r ≡ told.Steps n → length (ys ++ out) / stepSize < n → answerOne k 0 [] (ys ++ out) ≡ lettersOutcome o out
+  read-15 k n is e h = rw (is, none-lent ys out z) (full out o n before after (rw e at w) (rw (none-lent ys out z) at h))
 
   pub read-0 : (n : ℕ) (again : Decoded) (end : List ℕ) → r ≡ told.Steps n → n ≤ length (ys ++ out) / stepSize → Wrote o again (ys ++ out) end
       → answerOne 0 (stepSize * n) [] end ≡ lettersOutcome o out
@@ -76,14 +76,14 @@ module _ (w b list letters out : List ℕ) where
       (sym (one-early (tableRefusal w b) _ [] out z (refused-early (tableRefusal w b) z (table-refusal-most w b))))
 
   module _ (good : tableRefusal w b ≡ 0) where
-    pub answer-10 : bad10 w ≡ true → answerOne 10 0 [] out ≡ decodeOutcome w b list letters out
+    pub answer-10 : (k : ℕ) → k ≡ 10 → bad10 w ≡ true → answerOne k 0 [] out ≡ decodeOutcome w b list letters out
     unfolding decodeOutcome decodeNumber firstOf orElse isEarly
-    answer-10 t = rw (good, t) (sym (one-late 10 _ [] out (λ e. omega arith) refl))
+    answer-10 k is t = rw (is, good, t) (sym (one-late 10 _ [] out (λ e. omega arith) refl))
 
     module _ (unmixed : bad10 w ≡ false) where
-      pub answer-16 : badLabels w list ≡ true → answerOne 16 0 [] out ≡ decodeOutcome w b list letters out
+      pub answer-16 : (k : ℕ) → k ≡ 16 → badLabels w list ≡ true → answerOne k 0 [] out ≡ decodeOutcome w b list letters out
       unfolding decodeOutcome decodeNumber firstOf orElse isEarly
-      answer-16 t = rw (good, unmixed, t) (sym (one-late 16 _ [] out (λ e. omega arith) refl))
+      answer-16 k is t = rw (is, good, unmixed, t) (sym (one-late 16 _ [] out (λ e. omega arith) refl))
 
       pub letters-left : badLabels w list ≡ false → lettersOutcome (allLetters (mandatory w) list letters beginning) out ≡ decodeOutcome w b list letters out
       unfolding decodeOutcome decodeNumber decoded lettersOutcome firstOf orElse

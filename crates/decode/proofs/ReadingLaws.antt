@@ -1,4 +1,4 @@
--- Laws of readings: what the code's state shows after each kind of letter, and the loop over all letters.
+-- Laws of readings: what the code's state shows after each kind of letter.
 -- The definition's next reading is known by the code's own tests, and the state that the code makes is that reading's.
 use mathlib.Core.Path.{_≡_, refl, sym, _∙_}
 use mathlib.Core.Bool.{Bool, true, false}
@@ -7,11 +7,11 @@ use mathlib.Core.List.{List, [], _∷_, _++_}
 use Prim.Native.Nat.{ℕ, _+_, _*_, _-_, _<_, _≤_}
 use native.Mathlib.Omega.{arith}
 use lib.Dec.{ltb}
-use lib.ListN.{length, set, take, drop, length-append}
+use lib.ListN.{length, length-append}
 use borrow.Author.Tests.{lt-ltb, le-ltb, le-leb, lt-leb}
 use Rattle.laws.specs.Lists.{boole, clash}
 use Rattle.defs.specs.Table.{maxWord}
-use Rattle.defs.specs.Steps.{Step, stepSize, stepWords}
+use Rattle.defs.specs.Steps.{Step}
 use Rattle.defs.specs.Decode.{Reading, stepNamed, markLast, finishCode, leadCode, markStep}
 use Rattle.letters.specs.Numbers.{capped, numberOf}
 use Rattle.letters.specs.declared.number.Number.{Number}
@@ -21,8 +21,9 @@ use Rattle.letters.specs.declared.letter.Letter.{Letter}
 use Rattle.letters.proofs.Ranges.{Said, letter-said}
 use Rattle.letters.proofs.Numbers.{Told, number-told, capped-number, capped-lead}
 use Rattle.decode.specs.declared.reading.Decoder.{Decoder}
+use Rattle.decode.specs.declared.reading.Turn.{Turn}
 use Rattle.decode.specs.declared.reading.Turn.the-variants as turn
-use Rattle.decode.specs.Decoding.{Keeps, Came}
+use Rattle.decode.specs.Decoding.{StepPut, MarkPut, Keeps, Came}
 use Rattle.decode.proofs.StepLaws.{one-more, mark-length, last-marked}
 
 -- ---- answers of one letter
@@ -31,10 +32,10 @@ pub came-refused : (o : Option Reading) (most : ℕ) (before after : List ℕ) �
 unfolding Came
 came-refused o most before after e = rw e tt
 
-pub came-goes : (o : Option Reading) (reading : Reading) (d : Decoder) (most : ℕ) (before after : List ℕ)
-    → o ≡ some reading → Keeps reading d before after → d .steps ≤ most → Came o (turn.Goes d) most before after
+came-goes : (o : Option Reading) (reading : Reading) (r : Turn) (d : Decoder) (most : ℕ) (before after : List ℕ)
+    → o ≡ some reading → r ≡ turn.Goes d → Keeps reading d before after → d .steps ≤ most → Came o r most before after
 unfolding Came
-came-goes o reading d most before after e k h = rw e (k, h)
+came-goes o reading r d most before after e f k h = rw (e, f) (k, h)
 
 abbrev decoder : ℕ → Bool → ℕ → ℕ → Decoder
 decoder pending finished given steps = record { pending = pending; finished = finished; given = given; steps = steps }
@@ -75,7 +76,7 @@ module _ (thm list : List ℕ) (reading : Reading) (x : ℕ) where
 
 -- the step is stored where there is room for it
 keeps-step : (reading : Reading) (d : Decoder) (t : Step) (before after end : List ℕ) → Keeps reading d before after → length end ≡ length after
-    → (stepSize * d .steps + stepSize ≤ length after → end ≡ (take (stepSize * d .steps) after ++ stepWords t) ++ drop (stepSize * d .steps + stepSize) after)
+    → StepPut t (d .steps) after end
     → Keeps (read 0 true (reading .given) (reading .out ++ t ∷ [])) (decoder 0 true (d .given) (d .steps + 1)) before end
 keeps-step reading d t before after end k l put =
     record {
@@ -100,24 +101,25 @@ module _ (thm list : List ℕ) (reading : Reading) (x : ℕ) (d : Decoder) (digi
       → Came (finishCode thm list reading x) turn.Refused most before end
   names-nothing v most end t h = came-refused _ most before end (finish-high thm list reading x (omega (arith, told (Of v) t .0, k .given-is)))
 
-  pub names-step : (v : ℕ) (t : Step) (end : List ℕ) → r ≡ Of v → v < length thm + length list + d .given → t ≡ stepNamed thm list v → length end ≡ length after
-      → (stepSize * d .steps + stepSize ≤ length after → end ≡ (take (stepSize * d .steps) after ++ stepWords t) ++ drop (stepSize * d .steps + stepSize) after)
-      → Came (finishCode thm list reading x) (turn.Goes (decoder 0 true (d .given) (d .steps + 1))) (d .steps + 1) before end
-  names-step v t end s h named l put =
+  pub names-step : (next : Turn) (v : ℕ) (t : Step) (end : List ℕ) → next ≡ turn.Goes (decoder 0 true (d .given) (d .steps + 1)) → r ≡ Of v
+      → v < length thm + length list + d .given → t ≡ stepNamed thm list v → length end ≡ length after → StepPut t (d .steps) after end
+      → Came (finishCode thm list reading x) next (d .steps + 1) before end
+  names-step next v t end f s h named l put =
       let is-v : v ≡ numberRead reading x = told (Of v) s .0 in
-      came-goes _ _ _ _ before end
+      came-goes _ _ next _ _ before end
       (finish-named thm list reading x t (omega (arith, k .given-is)) (told (Of v) s .1) (rw is-v at named))
+      f
       (keeps-step reading d t before after end k l put)
       (omega arith)
 
 -- ---- a leading letter
 
-pub leads : (reading : Reading) (x : ℕ) (d : Decoder) (digit : ℕ) (before after : List ℕ) (pending : ℕ) → x - 84 ≡ digit → Keeps reading d before after
-    → pending ≡ capped (d .pending * 5 + digit)
-    → Came (leadCode reading x) (turn.Goes (decoder pending false (d .given) (d .steps))) (d .steps + 1) before after
+pub leads : (reading : Reading) (x : ℕ) (d : Decoder) (digit : ℕ) (before after : List ℕ) (next : Turn) (pending : ℕ) → x - 84 ≡ digit → Keeps reading d before after
+    → next ≡ turn.Goes (decoder pending false (d .given) (d .steps)) → pending ≡ capped (d .pending * 5 + digit)
+    → Came (leadCode reading x) next (d .steps + 1) before after
 unfolding leadCode
-leads reading x d digit before after pending e k p =
-    came-goes _ _ _ _ before after refl
+leads reading x d digit before after next pending e k f p =
+    came-goes _ _ next _ _ before after refl f
     (record {
       pending-is = p ∙ rw (k .pending-is, ← e) (capped-lead (reading .pending) (x - 84));
       finished-is = refl;
@@ -145,13 +147,13 @@ module _ (reading : Reading) (d : Decoder) (before after : List ℕ) (k : Keeps 
   unfolding markStep
   mark-read f g = rw (sym (k .finished-is) ∙ f, lt-ltb (reading .given) maxWord (omega (arith, k .given-is)))
 
-  pub marks-last : (end : List ℕ) (mark n : ℕ) → d .finished ≡ true → d .given < maxWord → mark ≡ d .given + 1 → n ≡ d .steps - 1 → length end ≡ length after
-      → (stepSize * n + stepSize ≤ length after → end ≡ set after (stepSize * n + 1) mark)
-      → Came (markStep reading) (turn.Goes (decoder 0 false mark (d .steps))) (d .steps + 1) before end
-  marks-last end mark n f g m last l put =
+  pub marks-last : (end : List ℕ) (next : Turn) (mark n : ℕ) → next ≡ turn.Goes (decoder 0 false mark (d .steps)) → d .finished ≡ true → d .given < maxWord
+      → mark ≡ d .given + 1 → n ≡ d .steps - 1 → length end ≡ length after → MarkPut mark n after end
+      → Came (markStep reading) next (d .steps + 1) before end
+  marks-last end next mark n goes f g m last l put =
       let some-step : 0 < d .steps = k .begun f in
       let is-mark : mark ≡ reading .given + 1 = omega (arith, k .given-is) in
-      came-goes _ _ _ _ before end (mark-read f g)
+      came-goes _ _ next _ _ before end (mark-read f g) goes
       (record {
         pending-is = omega arith;
         finished-is = refl;

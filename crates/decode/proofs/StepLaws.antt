@@ -14,23 +14,23 @@ use Rattle.defs.specs.LetterLaws.{named-ref}
 
 -- ---- the step that a number past both lists names
 
-pub named-mark : (thm list : List ℕ) (v : ℕ) → length thm ≤ v → length list ≤ v - length thm
-    → _≡_ {A = Step} (record { ref = v - length thm - length list + 1; mark = 0; stmt = 0; parent = 0; index = 0 }) (stepNamed thm list v)
-named-mark thm list v h k =
-    let e : v - length thm - length list ≡ v - (length thm + length list) = omega arith in
-    rw e (sym (named-ref thm list v (omega arith)))
+pub named-mark : (thm list : List ℕ) (v ref : ℕ) → length thm ≤ v → length list ≤ v - length thm → ref ≡ v - length thm - length list + 1
+    → _≡_ {A = Step} (record { ref = ref; mark = 0; stmt = 0; parent = 0; index = 0 }) (stepNamed thm list v)
+named-mark thm list v ref h k e =
+    let f : ref ≡ v - (length thm + length list) + 1 = omega arith in
+    rw f (sym (named-ref thm list v (omega arith)))
 
 -- ---- stores
 
-pub five-stores : (t : Step) (l : List ℕ) (i : ℕ) → i + stepSize ≤ length l
-    → set (set (set (set (set l i (t .ref)) (i + 1) (t .mark)) (i + 2) (t .stmt)) (i + 3) (t .parent)) (i + 4) (t .index) ≡ (take i l ++ stepWords t) ++ drop (i + stepSize) l
+pub five-stores : (t : Step) (l : List ℕ) (i a b c d e : ℕ) → t ≡ record { ref = a; mark = b; stmt = c; parent = d; index = e } → i + stepSize ≤ length l
+    → set (set (set (set (set l i a) (i + 1) b) (i + 2) c) (i + 3) d) (i + 4) e ≡ (take i l ++ stepWords t) ++ drop (i + stepSize) l
 unfolding stepWords
-five-stores t l i h =
+five-stores t l i a b c d e f h =
     let e1 : i + 1 ≡ suc i = omega arith in
     let e2 : i + 2 ≡ suc (suc i) = omega arith in
     let e3 : i + 3 ≡ suc (suc (suc i)) = omega arith in
     let e4 : i + 4 ≡ suc (suc (suc (suc i))) = omega arith in
-    rw (e1, e2, e3, e4) (sets-eq (stepWords t) l i h)
+    rw (f, e1, e2, e3, e4) (sets-eq (a ∷ b ∷ c ∷ d ∷ e ∷ []) l i h)
 
 -- ---- a slice that held `before`, with the words of steps at its front
 

@@ -2,12 +2,12 @@
 use mathlib.Core.Path.{_≡_}
 use mathlib.Core.Bool.{true, false}
 use mathlib.Core.Option.{Option, none, some}
-use mathlib.Core.List.{List, []}
-use Prim.Native.Nat.{ℕ, _*_, _<_, _≤_}
-use lib.ListN.{length}
+use mathlib.Core.List.{List, [], _++_}
+use Prim.Native.Nat.{ℕ, _+_, _*_, _<_, _≤_}
+use lib.ListN.{length, set, take, drop}
 use Rattle.laws.specs.Tools.{over}
 use Rattle.defs.specs.Table.{maxReferences, maxStatements}
-use Rattle.defs.specs.Steps.{Step, stepSize, flat}
+use Rattle.defs.specs.Steps.{Step, stepSize, stepWords, flat}
 use Rattle.defs.specs.Decode.{Reading}
 use Rattle.letters.specs.Numbers.{capped}
 use Rattle.decode.specs.declared.steps.NamedStep.{NamedStep}
@@ -29,6 +29,16 @@ pub record Short (thm list : List ℕ) : Type 0 where
 -- the step as it stands before a mark
 abbrev pub stepOf : NamedStep → Step
 stepOf s = record { ref = s .reference; mark = 0; stmt = s .statement; parent = 0; index = 0 }
+
+-- ---- stores of step n, which has its words from 5n on: they are made where the slice has room for that step
+
+abbrev pub StepPut : Step → ℕ → List ℕ → List ℕ → Type 0
+StepPut t n before after =
+    stepSize * n + stepSize ≤ length before → after ≡ (take (stepSize * n) before ++ stepWords t) ++ drop (stepSize * n + stepSize) before
+
+-- the mark is the second word
+abbrev pub MarkPut : ℕ → ℕ → List ℕ → List ℕ → Type 0
+MarkPut mark n before after = stepSize * n + stepSize ≤ length before → after ≡ set before (stepSize * n + 1) mark
 
 -- ---- where the reading stands
 

@@ -11,12 +11,12 @@ ghost use Rattle.defs.specs.Decode.{allLetters};
 ghost use Rattle.decode.specs.Decoding.{Short, beginning};
 ghost use Rattle.decode.specs.Answer.{lettersOutcome};
 
-pub fn write_steps(thm: &[u32], list: &[u32], letters: &[u8], out: &mut [u32]) -> Written
-    requires { ⌜ Short (now thm) (now list) ⌝ }
+pub fn write_steps(hypotheses: &[u32], list: &[u32], letters: &[u8], out: &mut [u32]) -> Written
+    requires { ⌜ Short (now hypotheses) (now list) ⌝ }
     ensures { λ r. ⌜ answerOne (r .number) (r .length) [] (now (out .exit))
-        ≡ lettersOutcome (allLetters (now (thm .entry)) (now (list .entry)) (now (letters .entry)) beginning) (now (out .entry)) ⌝ }
+        ≡ lettersOutcome (allLetters (now (hypotheses .entry)) (now (list .entry)) (now (letters .entry)) beginning) (now (out .entry)) ⌝ }
 {
-    let measured = all_letters(thm, list, letters, &mut out[..0]);
+    let measured = all_letters(hypotheses, list, letters, &mut out[..0]);
     let Decoded::Steps(steps) = measured else {
         return Written {
             number: 17,
@@ -29,7 +29,7 @@ pub fn write_steps(thm: &[u32], list: &[u32], letters: &[u8], out: &mut [u32]) -
             length: 0,
         };
     }
-    all_letters(thm, list, letters, out);
+    all_letters(hypotheses, list, letters, out);
     Written {
         number: 0,
         length: STEP_WORDS * steps,

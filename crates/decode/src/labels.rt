@@ -6,8 +6,8 @@ ghost use Rattle.laws.specs.Tools.{any};
 ghost use Rattle.decode.specs.Labels.{badItem, badList};
 
 // Some item is not below s, or stands in the theorem's list.
-fn item_wrong(s: u32, thm: &[u32], list: &[u32]) -> bool
-    ensures { λ r. ⌜ r ≡ any (badItem s (now (thm .entry))) (now (list .entry)) ⌝ }
+fn item_wrong(s: u32, hypotheses: &[u32], list: &[u32]) -> bool
+    ensures { λ r. ⌜ r ≡ any (badItem s (now (hypotheses .entry))) (now (list .entry)) ⌝ }
 {
     let mut i: usize = 0;
     while i < list.len() {
@@ -15,7 +15,7 @@ fn item_wrong(s: u32, thm: &[u32], list: &[u32]) -> bool
         if s <= k {
             return true;
         }
-        if holds(thm, k) {
+        if holds(hypotheses, k) {
             return true;
         }
         i += 1;
@@ -24,10 +24,10 @@ fn item_wrong(s: u32, thm: &[u32], list: &[u32]) -> bool
 }
 
 // A list of more than s numbers below s repeats one of them. So the search over pairs is never longer than s allows.
-pub fn list_wrong(s: u32, thm: &[u32], list: &[u32]) -> bool
-    ensures { λ r. ⌜ r ≡ badList s (now (thm .entry)) (now (list .entry)) ⌝ }
+pub fn list_wrong(s: u32, hypotheses: &[u32], list: &[u32]) -> bool
+    ensures { λ r. ⌜ r ≡ badList s (now (hypotheses .entry)) (now (list .entry)) ⌝ }
 {
-    if item_wrong(s, thm, list) {
+    if item_wrong(s, hypotheses, list) {
         return true;
     }
     if list.len() > s as usize {

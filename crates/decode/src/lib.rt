@@ -32,18 +32,18 @@ pub fn decode(
     if number != 0 {
         return Written { number, length: 0 };
     }
-    let thm = theorem_list(words);
-    if mixed(statement_section(words), thm) {
+    let hypotheses = theorem_list(words);
+    if mixed(statement_section(words), hypotheses) {
         return Written {
             number: 10,
             length: 0,
         };
     }
-    if list_wrong(read_header(words).statements, thm, list) {
+    if list_wrong(read_header(words).statements, hypotheses, list) {
         return Written {
             number: 16,
             length: 0,
         };
     }
-    write_steps(thm, list, letters, out)
+    write_steps(hypotheses, list, letters, out)
 }

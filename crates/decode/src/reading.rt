@@ -40,84 +40,91 @@ pub enum Decoded {
 }
 
 // `A` to `T` finish a code; a number naming nothing yet is refused.
-fn finish_code(thm: &[u32], list: &[u32], d: Decoder, digit: u32, out: &mut [u32]) -> Turn
-    requires { ⌜ Short (now thm) (now list) × Ready d ⌝ }
-    ensures { λ r. ⌜ ((reading : Reading) (x : ℕ) (before : List ℕ) → x - 65 ≡ digit → Keeps reading d before (now (out .entry))
-        → Came (finishCode (now (thm .entry)) (now (list .entry)) reading x) r (d .steps + 1) before (now (out .exit))) ⌝ }
+fn finish_code(
+    hypotheses: &[u32],
+    list: &[u32],
+    state: Decoder,
+    digit: u32,
+    out: &mut [u32],
+) -> Turn
+    requires { ⌜ Short (now hypotheses) (now list) × Ready state ⌝ }
+    ensures { λ r. ⌜ ((reading : Reading) (x : ℕ) (before : List ℕ) → x - 65 ≡ digit → Keeps reading state before (now (out .entry))
+        → Came (finishCode (now (hypotheses .entry)) (now (list .entry)) reading x) r (state .steps + 1) before (now (out .exit))) ⌝ }
 {
-    let number = finish(d.pending, digit);
+    let number = finish(state.pending, digit);
     let Number::Of(v) = number else {
         return Turn::Refused;
     };
-    if thm.len() + list.len() + d.given as usize <= v as usize {
+    let names = hypotheses.len() + list.len() + state.given as usize;
+    if names <= v as usize {
         return Turn::Refused;
     }
-    let n = d.steps;
-    put_step(step_named(thm, list, v), n, out);
+    let n = state.steps;
+    put_step(step_named(hypotheses, list, v), n, out);
     Turn::Goes(Decoder {
         pending: 0,
         finished: true,
-        given: d.given,
+        given: state.given,
         steps: n + 1,
     })
 }
 
 // `U` to `Y` lead.
-fn lead_code(d: Decoder, digit: u32) -> Turn
-    ensures { λ r. ⌜ ((reading : Reading) (x : ℕ) (before after : List ℕ) → x - 84 ≡ digit → Keeps reading d before after
-        → Came (leadCode reading x) r (d .steps + 1) before after) ⌝ }
+fn lead_code(state: Decoder, digit: u32) -> Turn
+    ensures { λ r. ⌜ ((reading : Reading) (x : ℕ) (before after : List ℕ) → x - 84 ≡ digit → Keeps reading state before after
+        → Came (leadCode reading x) r (state .steps + 1) before after) ⌝ }
 {
     Turn::Goes(Decoder {
-        pending: lead(d.pending, digit),
+        pending: lead(state.pending, digit),
         finished: false,
-        given: d.given,
-        steps: d.steps,
+        given: state.given,
+        steps: state.steps,
     })
 }
 
 // `Z` marks the step just finished; not straight after a finished code it is refused.
-fn mark_step(d: Decoder, out: &mut [u32]) -> Turn
-    requires { ⌜ Ready d ⌝ }
-    ensures { λ r. ⌜ ((reading : Reading) (before : List ℕ) → Keeps reading d before (now (out .entry))
-        → Came (markStep reading) r (d .steps + 1) before (now (out .exit))) ⌝ }
+fn mark_step(state: Decoder, out: &mut [u32]) -> Turn
+    requires { ⌜ Ready state ⌝ }
+    ensures { λ r. ⌜ ((reading : Reading) (before : List ℕ) → Keeps reading state before (now (out .entry))
+        → Came (markStep reading) r (state .steps + 1) before (now (out .exit))) ⌝ }
 {
-    if !d.finished {
+    if !state.finished {
         return Turn::Refused;
     }
-    if d.given == LARGEST {
+    if state.given == LARGEST {
         return Turn::Refused;
     }
-    let mark = d.given + 1;
-    put_mark(mark, d.steps - 1, out);
+    let mark = state.given + 1;
+    put_mark(mark, state.steps - 1, out);
     Turn::Goes(Decoder {
         pending: 0,
         finished: false, // a second `Z` finds no code just finished
         given: mark,
-        steps: d.steps,
+        steps: state.steps,
     })
 }
 
 // One decision over the byte ranges for each letter; any other byte is refused.
-fn one_letter(thm: &[u32], list: &[u32], d: Decoder, x: u8, out: &mut [u32]) -> Turn
-    requires { ⌜ Short (now thm) (now list) × Ready d ⌝ }
-    ensures { λ r. ⌜ ((reading : Reading) (before : List ℕ) → Keeps reading d before (now (out .entry))
-        → Came (oneLetter (now (thm .entry)) (now (list .entry)) reading x) r (d .steps + 1) before (now (out .exit))) ⌝ }
+fn one_letter(hypotheses: &[u32], list: &[u32], state: Decoder, byte: u8, out: &mut [u32]) -> Turn
+    requires { ⌜ Short (now hypotheses) (now list) × Ready state ⌝ }
+    ensures { λ r. ⌜ ((reading : Reading) (before : List ℕ) → Keeps reading state before (now (out .entry))
+        → Came (oneLetter (now (hypotheses .entry)) (now (list .entry)) reading byte) r (state .steps + 1) before (now (out .exit))) ⌝ }
 {
-    let letter = read_letter(x);
+    let letter = read_letter(byte);
     match letter {
-        Letter::Finishing(digit) => finish_code(thm, list, d, digit, out),
-        Letter::Leading(digit) => lead_code(d, digit),
-        Letter::Mark => mark_step(d, out),
+        Letter::Finishing(digit) => finish_code(hypotheses, list, state, digit, out),
+        Letter::Leading(digit) => lead_code(state, digit),
+        Letter::Mark => mark_step(state, out),
         Letter::Other => Turn::Refused,
     }
 }
 
 // Letters must not end inside a code.
-pub fn all_letters(thm: &[u32], list: &[u32], letters: &[u8], out: &mut [u32]) -> Decoded
-    requires { ⌜ Short (now thm) (now list) ⌝ }
-    ensures { λ r. ⌜ Wrote (allLetters (now (thm .entry)) (now (list .entry)) (now (letters .entry)) beginning) r (now (out .entry)) (now (out .exit)) ⌝ }
+pub fn all_letters(hypotheses: &[u32], list: &[u32], letters: &[u8], out: &mut [u32]) -> Decoded
+    requires { ⌜ Short (now hypotheses) (now list) ⌝ }
+    ensures { λ r. ⌜ Wrote (allLetters (now (hypotheses .entry)) (now (list .entry)) (now (letters .entry)) beginning) r (now (out .entry)) (now (out .exit)) ⌝ }
 {
-    let mut d = Decoder {
+    let mut state = Decoder {
         pending: 0,
         finished: false,
         given: 0,
@@ -125,15 +132,15 @@ pub fn all_letters(thm: &[u32], list: &[u32], letters: &[u8], out: &mut [u32]) -
     };
     let mut i: usize = 0;
     while i < letters.len() {
-        let turn = one_letter(thm, list, d, letters[i], out);
+        let turn = one_letter(hypotheses, list, state, letters[i], out);
         let Turn::Goes(next) = turn else {
             return Decoded::Refused;
         };
-        d = next;
+        state = next;
         i += 1;
     }
-    if d.pending != 0 {
+    if state.pending != 0 {
         return Decoded::Refused;
     }
-    Decoded::Steps(d.steps)
+    Decoded::Steps(state.steps)
 }

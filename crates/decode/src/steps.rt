@@ -1,13 +1,11 @@
 // The steps that letters name, and their words in the output.
 // Step n has its words from 5n on. It is stored where the slice has room for it, and else only counted.
 ghost use mathlib.Core.Path.{_≡_};
-ghost use mathlib.Core.List.{_++_};
-ghost use Prim.Native.Nat.{_+_, _*_, _<_, _≤_};
-ghost use lib.ListN.{length, set, take, drop};
+ghost use Prim.Native.Nat.{_+_, _<_};
+ghost use lib.ListN.{length};
 ghost use Rattle.defs.specs.Table.{maxWord};
-ghost use Rattle.defs.specs.Steps.{stepSize, stepWords};
 ghost use Rattle.defs.specs.Decode.{stepNamed};
-ghost use Rattle.decode.specs.Decoding.{Short, stepOf};
+ghost use Rattle.decode.specs.Decoding.{stepOf, StepPut, MarkPut};
 
 // A step is five u32: reference, mark, statement, parent, hypothesis index.
 pub const STEP_WORDS: usize = 5;
@@ -19,18 +17,18 @@ pub struct NamedStep {
 }
 
 // Numbers name first the theorem's list, then the label list, then the marks.
-pub fn step_named(thm: &[u32], list: &[u32], number: u32) -> NamedStep
-    requires { ⌜ number < length (now thm) + length (now list) + maxWord ⌝ }
-    ensures { λ r. ⌜ stepOf r ≡ stepNamed (now (thm .entry)) (now (list .entry)) number ⌝ }
+pub fn step_named(hypotheses: &[u32], list: &[u32], number: u32) -> NamedStep
+    requires { ⌜ number < length (now hypotheses) + length (now list) + maxWord ⌝ }
+    ensures { λ r. ⌜ stepOf r ≡ stepNamed (now (hypotheses .entry)) (now (list .entry)) number ⌝ }
 {
     let place = number as usize;
-    if place < thm.len() {
+    if place < hypotheses.len() {
         return NamedStep {
             reference: 0,
-            statement: thm[place],
+            statement: hypotheses[place],
         };
     }
-    let listed = place - thm.len();
+    let listed = place - hypotheses.len();
     if listed < list.len() {
         return NamedStep {
             reference: 0,
@@ -44,8 +42,7 @@ pub fn step_named(thm: &[u32], list: &[u32], number: u32) -> NamedStep
 }
 
 pub fn put_step(step: NamedStep, n: usize, out: &mut [u32])
-    ensures { λ _. ⌜ (stepSize * n + stepSize ≤ length (now (out .entry))
-        → now (out .exit) ≡ (take (stepSize * n) (now (out .entry)) ++ stepWords (stepOf step)) ++ drop (stepSize * n + stepSize) (now (out .entry))) ⌝ }
+    ensures { λ _. ⌜ StepPut (stepOf step) n (now (out .entry)) (now (out .exit)) ⌝ }
 {
     if out.len() / STEP_WORDS <= n {
         return;
@@ -59,7 +56,7 @@ pub fn put_step(step: NamedStep, n: usize, out: &mut [u32])
 }
 
 pub fn put_mark(mark: u32, n: usize, out: &mut [u32])
-    ensures { λ _. ⌜ (stepSize * n + stepSize ≤ length (now (out .entry)) → now (out .exit) ≡ set (now (out .entry)) (stepSize * n + 1) mark) ⌝ }
+    ensures { λ _. ⌜ MarkPut mark n (now (out .entry)) (now (out .exit)) ⌝ }
 {
     if out.len() / STEP_WORDS <= n {
         return;

@@ -39,10 +39,10 @@ pub fn decimal_length(v: u32) -> usize
     ensures { λ r. ⌜ r ≡ length (digits v) ⌝ }
 {
     let mut count: usize = 1;
-    let mut q = v;
-    while q >= 10 {
+    let mut rest = v;
+    while rest >= 10 {
         count += 1;
-        q /= 10;
+        rest /= 10;
     }
     count
 }

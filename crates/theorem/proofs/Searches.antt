@@ -77,9 +77,9 @@ module _ (f : ℕ → ℕ) (list : List ℕ) (i : ℕ) where
       let n : essential ≡ true → k ≡ 1 → ⊥ = λ t one. ⊎-elim (λ w. w .1 one) (λ w. clash essential t w) calm in
       rw (drop-next list i h, ← e, a) (mixed-step essential k (map f (drop (i + 1) list)) n)
 
-  pub mixed-hit : (essential : Bool) → i < length list → essential ≡ true → f (getD list i 0) ≡ 1 → mixedFrom essential (map f (drop i list)) ≡ true
+  pub mixed-hit : (essential : Bool) (k : ℕ) → i < length list → k ≡ f (getD list i 0) → essential ≡ true → k ≡ 1 → mixedFrom essential (map f (drop i list)) ≡ true
   unfolding member
-  mixed-hit essential h e k = rw (drop-next list i h, e, k)
+  mixed-hit essential k h e t one = rw (drop-next list i h, t, ← e, one)
 
   pub mixed-end : (essential : Bool) → length list ≤ i → mixedFrom essential (map f (drop i list)) ≡ false
   unfolding member mixed

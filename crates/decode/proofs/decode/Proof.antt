@@ -1,6 +1,7 @@
 -- `decode` meets its contract. Each test is that of the definition, by what the function that it calls ensures;
 -- a table that is not refused has the theorem's list inside, and a list that is not refused is short.
 use mathlib.Core.Path.{_≡_, sym, _∙_}
+use native.Mathlib.Omega.{arith}
 use borrow.Author.Needs.{needs}
 use Rattle.defs.specs.Decode.{badLabels}
 use Rattle.defs.specs.Refusals.{bad10}
@@ -41,7 +42,7 @@ mixed-requires : tie.Need-mixed-requires
 mixed-requires c κs = rw (c .statement-section .ensures, c .before .theorem-list .ensures) (list-statements _ (right (c .before .before)))
 
 returns-2 : tie.Need-returns-2
-returns-2 c = answer-10 _ _ _ _ _ (good (c .before .before .before .before)) (mixed-is (c .before) ∙ c .if2 .taken)
+returns-2 c = answer-10 _ _ _ _ _ (good (c .before .before .before .before)) _ (omega arith) (mixed-is (c .before) ∙ c .if2 .taken)
 
 read-header-requires : tie.Need-read-header-requires
 read-header-requires c κs = right (c .before .before .before .before) .header .ten
@@ -50,7 +51,7 @@ list-wrong-requires : tie.Need-list-wrong-requires
 list-wrong-requires c κs = search needs
 
 returns-3 : tie.Need-returns-3
-returns-3 c = answer-16 _ _ _ _ _ (good (c .before .before .before .before .before .before .before)) (mixed-is (c .before .before .before .before) ∙ c .before .before .before .if2 .left) (list-is (c .before) ∙ c .if3 .taken)
+returns-3 c = answer-16 _ _ _ _ _ (good (c .before .before .before .before .before .before .before)) (mixed-is (c .before .before .before .before) ∙ c .before .before .before .if2 .left) _ (omega arith) (list-is (c .before) ∙ c .if3 .taken)
 
 write-steps-requires : tie.Need-write-steps-requires
 write-steps-requires c κs = short _ _ _ _ (c .before .before .before .read-header .ensures .statements-is) (c .before .before .before .before .before .before .before .theorem-list .ensures) (right (c .before .before .before .before .before .before .before .before)) (sym (c .before .before .list-wrong .ensures) ∙ c .before .if3 .left)

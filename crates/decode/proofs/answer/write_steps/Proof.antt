@@ -25,14 +25,17 @@ same-length : tie.Need-same-length
 same-length c = search needs
 
 returns : tie.Need-returns
-returns c = read-17 (c .before .before .before .before .before .before .before .before .before .before .args .out .now) (c .before .before .before .before .all-letters .last .1 .1 .1 .0) (c .before .before .before .before .all-letters .kept .1 .1 .1 .0) _ _ _ _ (c .before .before .before .before .all-letters .ensures) (c .enum-told .given .1)
+returns c =
+    let first = c .before .before .before .before .all-letters in
+    read-17 (c .before .before .before .before .before .before .before .before .before .before .args .out .now) (first .last .1 .1 .1 .0) (first .kept .1 .1 .1 .0) _ _ _ _ (first .ensures) _ (omega arith) (c .enum-told .given .1)
 
 same-length-2 : tie.Need-same-length-2
 same-length-2 c = search needs
 
 returns-2 : tie.Need-returns-2
 returns-2 c =
-    read-15 (c .before .before .before .before .before .before .before .before .before .before .before .before .args .out .now) (c .before .before .before .before .before .before .all-letters .last .1 .1 .1 .0) (c .before .before .before .before .before .before .all-letters .kept .1 .1 .1 .0) _ _ _ _ (c .before .before .before .before .before .before .all-letters .ensures) _ (c .before .before .measured .given .1) (omega arith)
+    let first = c .before .before .before .before .before .before .all-letters in
+    read-15 (c .before .before .before .before .before .before .before .before .before .before .before .before .args .out .now) (first .last .1 .1 .1 .0) (first .kept .1 .1 .1 .0) _ _ _ _ (first .ensures) _ _ (omega arith) (c .before .before .measured .given .1) (omega arith)
 
 all-letters-requires-2 : tie.Need-all-letters-requires-2
 all-letters-requires-2 c κs = search needs
@@ -45,8 +48,8 @@ same-length-3 c = search needs
 
 returns-3 : tie.Need-returns-3
 returns-3 c =
-    read-0 (c .before .before .before .before .before .before .before .before .before .before .before .before .before .before .before .before .args .out .now) (c .before .before .before .before .before .before .before .before .before .before .all-letters .last .1 .1 .1 .0) (c .before .before .before .before .before .before .before .before .before .before .all-letters .kept .1 .1 .1 .0) _ _ _ _ (c .before .before .before .before .before .before .before .before .before .before .all-letters .ensures) _ _ _ (c .before .before .before .before .before .before .measured .given .1)
-    (omega arith) (c .before .before .all-letters2 .ensures)
+    let first = c .before .before .before .before .before .before .before .before .before .before .all-letters in
+    read-0 (c .before .before .before .before .before .before .before .before .before .before .before .before .before .before .before .before .args .out .now) (first .last .1 .1 .1 .0) (first .kept .1 .1 .1 .0) _ _ _ _ (first .ensures) _ _ _ (c .before .before .before .before .before .before .measured .given .1) (omega arith) (c .before .before .all-letters2 .ensures)
 
 pub write-steps-spec : {M : Type 1} → statement M
 write-steps-spec =

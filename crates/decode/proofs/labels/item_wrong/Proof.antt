@@ -13,10 +13,10 @@ use Rattle.decode.proofs.labels.item_wrong.Statement.{statement}
 use Rattle.decode.proofs.labels.item_wrong.Tie as tie
 
 abbrev Inv-loop : tie.InvT-loop
-Inv-loop s thm list i₀ i = (i ≤ length list) × (any (badItem s thm) (drop i list) ≡ any (badItem s thm) list)
+Inv-loop s hypotheses list i₀ i = (i ≤ length list) × (any (badItem s hypotheses) (drop i list) ≡ any (badItem s hypotheses) list)
 
 abbrev μ-loop : tie.MeasureT-loop
-μ-loop s thm list i₀ i = length list - i
+μ-loop s hypotheses list i₀ i = length list - i
 
 loop-holds : tie.Need-loop-holds Inv-loop μ-loop
 loop-holds c = (omega arith, refl)

@@ -1,8 +1,9 @@
 -- `list_wrong` meets its contract. The items are tested first; then a list that is longer than s repeats one of them,
 -- and of any other the search over pairs decides.
-use mathlib.Core.Path.{sym, _∙_}
+use mathlib.Core.Path.{_≡_, sym, _∙_}
 use native.Mathlib.Omega.{arith}
 use borrow.Author.Needs.{needs}
+use Rattle.laws.specs.Tools.{repeats}
 use Rattle.decode.proofs.LabelLaws.{too-long, wrong-item, right-items}
 use Rattle.decode.proofs.labels.list_wrong.Statement.{statement}
 use Rattle.decode.proofs.labels.list_wrong.Tie as tie
@@ -22,7 +23,9 @@ repeats-requires : tie.Need-repeats-requires
 repeats-requires c κs = search needs
 
 returns-3 : tie.Need-returns-3
-returns-3 c = c .repeats .ensures ∙ sym (right-items _ _ _ (sym (c .before .before .before .item-wrong .ensures) ∙ c .before .before .if1 .left))
+returns-3 c =
+    let again : c .repeats .result ≡ repeats (c .before .before .before .before .before .before .args .list .now) = c .repeats .ensures in
+    again ∙ sym (right-items _ _ _ (sym (c .before .before .before .item-wrong .ensures) ∙ c .before .before .if1 .left))
 
 pub list-wrong-spec : {M : Type 1} → statement M
 list-wrong-spec =

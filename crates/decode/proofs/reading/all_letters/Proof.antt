@@ -9,10 +9,10 @@ use Rattle.decode.proofs.reading.all_letters.Statement.{statement}
 use Rattle.decode.proofs.reading.all_letters.Tie as tie
 
 abbrev Inv-loop : tie.InvT-loop
-Inv-loop thm list letters out₀ d₀ i₀ out d i = (i ≤ length letters) × Read thm list letters i d out₀ out
+Inv-loop hypotheses list letters out₀ state₀ i₀ out state i = (i ≤ length letters) × Read hypotheses list letters i state out₀ out
 
 abbrev μ-loop : tie.MeasureT-loop
-μ-loop thm list letters out₀ d₀ i₀ out d i = length letters - i
+μ-loop hypotheses list letters out₀ state₀ i₀ out state i = length letters - i
 
 loop-holds : tie.Need-loop-holds Inv-loop μ-loop
 loop-holds c = (omega arith, read-none _ _ _ _)
@@ -21,7 +21,7 @@ shared-slice-read-one-letter : tie.Need-shared-slice-read-one-letter Inv-loop μ
 shared-slice-read-one-letter c = omega arith
 
 one-letter-requires : tie.Need-one-letter-requires Inv-loop μ-loop
-one-letter-requires c κs = let p = c .before .before .before .loop in (c .before .before .before .before .before .before .before .before .pre, ready _ _ _ _ (p .i) (p .d) (p .out) (p .inv .1) (omega arith))
+one-letter-requires c κs = let p = c .before .before .before .loop in (c .before .before .before .before .before .before .before .before .pre, ready _ _ _ _ (p .i) (p .state) (p .out) (p .inv .1) (omega arith))
 
 enum-known-turn : tie.Need-enum-known-turn Inv-loop μ-loop
 enum-known-turn c = c .match .keys1
@@ -35,7 +35,7 @@ same-length c = c .before .before .before .before .one-letter .kept .1 .1 .1 .1 
 returns : tie.Need-returns Inv-loop μ-loop
 returns c =
     let p = c .before .before .before .before .before .before .before .before .loop in
-    read-refused _ _ _ _ (p .i) (p .d) (p .out) (p .inv .1) _ _ _ (c .before .before .before .before .before .before .before .loop-test .taken) (c .enum-told .given .1)
+    read-refused _ _ _ _ (p .i) (p .state) (p .out) (p .inv .1) _ _ _ (c .before .before .before .before .before .before .before .loop-test .taken) (c .enum-told .given .1)
     (c .before .before .before .before .one-letter .ensures (p .inv .1 .reading) (c .before .before .before .before .before .before .before .before .before .before .before .before .before .args .out .now) (p .inv .1 .keeps))
 
 add-i : tie.Need-add-i Inv-loop μ-loop
@@ -48,7 +48,7 @@ loop-again : tie.Need-loop-again Inv-loop μ-loop
 loop-again c =
     let p = c .before .before .before .before .before .before .before .before .before .loop in (
       omega arith,
-      read-more _ _ _ _ (p .i) (p .d) (p .out) (p .inv .1) _ _ _ (c .before .before .before .before .before .before .before .before .loop-test .taken) (c .before .turn .given .1)
+      read-more _ _ _ _ (p .i) (p .state) (p .out) (p .inv .1) _ _ _ (c .before .before .before .before .before .before .before .before .loop-test .taken) (c .before .turn .given .1)
           (c .before .before .before .before .before .one-letter .ensures (p .inv .1 .reading) (c .before .before .before .before .before .before .before .before .before .before .before .before .before .before .args .out .now) (p .inv .1 .keeps)),
     )
 
@@ -56,13 +56,13 @@ same-length-2 : tie.Need-same-length-2 Inv-loop μ-loop
 same-length-2 c = c .before .before .before .loop .inv .1 .keeps .long
 
 returns-2 : tie.Need-returns-2 Inv-loop μ-loop
-returns-2 c = let p = c .before .before .before .loop in read-inside _ _ _ _ (p .i) (p .d) (p .out) (p .inv .1) (c .before .before .loop-test .left) (λ e. omega arith)
+returns-2 c = let p = c .before .before .before .loop in read-inside _ _ _ _ (p .i) (p .state) (p .out) (p .inv .1) (c .before .before .loop-test .left) (λ e. omega arith)
 
 same-length-3 : tie.Need-same-length-3 Inv-loop μ-loop
 same-length-3 c = c .before .before .before .loop .inv .1 .keeps .long
 
 returns-3 : tie.Need-returns-3 Inv-loop μ-loop
-returns-3 c = let p = c .before .before .before .loop in read-all _ _ _ _ (p .i) (p .d) (p .out) (p .inv .1) (c .before .before .loop-test .left) (omega arith)
+returns-3 c = let p = c .before .before .before .loop in read-all _ _ _ _ (p .i) (p .state) (p .out) (p .inv .1) (c .before .before .loop-test .left) (omega arith)
 
 pub all-letters-spec : {M : Type 1} → statement M
 all-letters-spec =

@@ -18,17 +18,17 @@ enum-told c = search needs
 returns : tie.Need-returns
 returns c = λ reading x before e k. too-large _ _ reading x _ _ before _ e k _ (c .before .before .finish .ensures) _ _ (c .enum-told .given .1)
 
-add-if1 : tie.Need-add-if1
-add-if1 c = search needs
+add-names : tie.Need-add-names
+add-names c = search needs
+
+cast-names : tie.Need-cast-names
+cast-names c = search needs
+
+add-names-2 : tie.Need-add-names-2
+add-names-2 c = search needs
 
 cast-if1 : tie.Need-cast-if1
 cast-if1 c = search needs
-
-add-if1-2 : tie.Need-add-if1-2
-add-if1-2 c = search needs
-
-cast-if1-2 : tie.Need-cast-if1-2
-cast-if1-2 c = search needs
 
 returns-2 : tie.Need-returns-2
 returns-2 c = λ reading x before e k. names-nothing _ _ reading x _ _ before _ e k _ (c .before .before .before .before .before .finish .ensures) _ _ _ (c .before .before .before .number .given .1) (omega arith)
@@ -39,15 +39,15 @@ step-named-requires c κs = search needs
 put-step-requires : tie.Need-put-step-requires
 put-step-requires c κs = search needs
 
-add-t9 : tie.Need-add-t9
-add-t9 c = search needs
+add-t13 : tie.Need-add-t13
+add-t13 c = search needs
 
 same-length : tie.Need-same-length
 same-length c = search needs
 
 returns-3 : tie.Need-returns-3
 returns-3 c = λ reading x before e k.
-    names-step _ _ reading x _ _ before _ e k _ (c .before .before .before .before .before .before .before .before .before .before .finish .ensures) _ _ _ (c .before .before .before .before .before .before .before .before .number .given .1) (omega arith) (c .before .before .before .before .step-named .ensures)
+    names-step _ _ reading x _ _ before _ e k _ (c .before .before .before .before .before .before .before .before .before .before .finish .ensures) _ _ _ _ (cc) (c .before .before .before .before .before .before .before .before .number .given .1) (omega arith) (c .before .before .before .before .step-named .ensures)
     (c .before .before .put-step .kept .1 .1 .0) (c .before .before .put-step .ensures)
 
 pub finish-code-spec : {M : Type 1} → statement M
@@ -58,13 +58,13 @@ finish-code-spec =
     enum-known-number
     enum-told
     returns
-    add-if1
+    add-names
+    cast-names
+    add-names-2
     cast-if1
-    add-if1-2
-    cast-if1-2
     returns-2
     step-named-requires
     put-step-requires
-    add-t9
+    add-t13
     same-length
     returns-3)

@@ -9,7 +9,7 @@ lead-requires : tie.Need-lead-requires
 lead-requires c κs = search needs
 
 returns : tie.Need-returns
-returns c = λ reading x before after e k. leads reading x _ _ before after _ e k (c .lead .ensures)
+returns c = λ reading x before after e k. leads reading x _ _ before after _ _ e k (cc) (c .lead .ensures)
 
 pub lead-code-spec : {M : Type 1} → statement M
 lead-code-spec = tie.close (tie.spec lead-requires returns)

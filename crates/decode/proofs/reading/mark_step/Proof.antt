@@ -28,7 +28,7 @@ same-length c = search needs
 
 returns-3 : tie.Need-returns-3
 returns-3 c = λ reading before k.
-    marks-last reading _ before _ k _ _ _ (not-false _ (c .before .before .before .before .before .before .before .before .if1 .left)) (omega arith) refl refl (c .before .before .put-mark .kept .1 .1 .0) (c .before .before .put-mark .ensures)
+    marks-last reading _ before _ k _ _ _ _ (cc) (not-false _ (c .before .before .before .before .before .before .before .before .if1 .left)) (omega arith) refl refl (c .before .before .put-mark .kept .1 .1 .0) (c .before .before .put-mark .ensures)
 
 pub mark-step-spec : {M : Type 1} → statement M
 mark-step-spec =

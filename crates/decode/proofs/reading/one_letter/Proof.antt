@@ -35,14 +35,14 @@ same-length c = search needs
 returns : tie.Need-returns
 returns c = λ reading before k.
     let a = c .before .before .before .before .before .before .before .before .before .before .before .args in
-    let s = letter-is (a .thm .now) (a .list .now) reading (a .x) _ _ (c .before .before .before .before .before .before .before .read-letter .ensures) (c .before .before .before .before .before .letter .given .1) in
-    rw (s .0) (c .before .before .finish-code .ensures reading (a .x) before (s .1 .0) k)
+    let s = letter-is (a .hypotheses .now) (a .list .now) reading (a .byte) _ _ (c .before .before .before .before .before .before .before .read-letter .ensures) (c .before .before .before .before .before .letter .given .1) in
+    rw (s .0) (c .before .before .finish-code .ensures reading (a .byte) before (s .1 .0) k)
 
 returns-2 : tie.Need-returns-2
 returns-2 c = λ reading before k.
     let a = c .before .before .before .before .before .before .before .before .args in
-    let s = letter-is (a .thm .now) (a .list .now) reading (a .x) _ _ (c .before .before .before .before .read-letter .ensures) (c .before .before .letter2 .given .1) in
-    rw (s .0) (c .lead-code .ensures reading (a .x) before (a .out .now) (s .1 .0) k)
+    let s = letter-is (a .hypotheses .now) (a .list .now) reading (a .byte) _ _ (c .before .before .before .before .read-letter .ensures) (c .before .before .letter2 .given .1) in
+    rw (s .0) (c .lead-code .ensures reading (a .byte) before (a .out .now) (s .1 .0) k)
 
 same-length-2 : tie.Need-same-length-2
 same-length-2 c = search needs
@@ -50,13 +50,13 @@ same-length-2 c = search needs
 returns-3 : tie.Need-returns-3
 returns-3 c = λ reading before k.
     let a = c .before .before .before .before .before .before .before .before .before .before .args in
-    let s = letter-is (a .thm .now) (a .list .now) reading (a .x) _ _ (c .before .before .before .before .before .before .read-letter .ensures) (c .before .before .before .before .enum-told .given .1) in
+    let s = letter-is (a .hypotheses .now) (a .list .now) reading (a .byte) _ _ (c .before .before .before .before .before .before .read-letter .ensures) (c .before .before .before .before .enum-told .given .1) in
     rw s (c .before .before .mark-step .ensures reading before k)
 
 returns-4 : tie.Need-returns-4
 returns-4 c = λ reading before k.
     let a = c .before .before .before .before .before .before .args in
-    came-refused _ _ before _ (letter-is (a .thm .now) (a .list .now) reading (a .x) _ _ (c .before .before .read-letter .ensures) (c .enum-told2 .given .1))
+    came-refused _ _ before _ (letter-is (a .hypotheses .now) (a .list .now) reading (a .byte) _ _ (c .before .before .read-letter .ensures) (c .enum-told2 .given .1))
 
 pub one-letter-spec : {M : Type 1} → statement M
 one-letter-spec =

@@ -60,7 +60,7 @@ same-length : tie.Need-same-length
 same-length c = search needs
 
 returns-2 : tie.Need-returns-2
-returns-2 c = λ h. five-stores (stepOf (c .before .args .step)) _ _ h
+returns-2 c = λ h. five-stores (stepOf (c .before .args .step)) _ _ _ _ _ _ _ (cc) h
 
 pub put-step-spec : {M : Type 1} → statement M
 put-step-spec =

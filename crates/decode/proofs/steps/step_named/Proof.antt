@@ -39,7 +39,7 @@ add-t16 : tie.Need-add-t16
 add-t16 c = search needs
 
 returns-3 : tie.Need-returns-3
-returns-3 c = named-mark _ _ _ (c .before .if1 .left) (c .if2 .left)
+returns-3 c = named-mark _ _ _ _ (c .before .if1 .left) (c .if2 .left) (omega arith)
 
 pub step-named-spec : {M : Type 1} → statement M
 step-named-spec =

@@ -1,5 +1,7 @@
 -- `mark_label` meets its contract. The label can be the decimal of one number only, the one that it says;
 -- it is not, or that number has no place, at the two returns that store nothing.
+use mathlib.Core.Path.{_≡_, sym, _∙_}
+use mathlib.Core.Bool.{true, false}
 use native.Mathlib.Omega.{arith}
 use borrow.Author.Needs.{needs}
 use Rattle.names.proofs.TakenLaws.{not-marked, is-marked}
@@ -25,10 +27,14 @@ same-length : tie.Need-same-length
 same-length c = search needs
 
 returns : tie.Need-returns
-returns c = is-marked _ _ _ (c .before .before .before .number-of .ensures) (c .before .before .before .before .before .before .pre) (c .before .before .if1 .taken) (cc (c .before .is-decimal .ensures, c .if2 .taken))
+returns c =
+    let equal : c .before .is-decimal .result ≡ true = c .if2 .taken in
+    is-marked _ _ _ (c .before .before .before .number-of .ensures) (c .before .before .before .before .before .before .pre) (c .before .before .if1 .taken) (sym (c .before .is-decimal .ensures) ∙ equal)
 
 returns-2 : tie.Need-returns-2
-returns-2 c = not-marked _ _ _ (c .before .before .before .number-of .ensures) (c .before .before .before .before .before .before .pre) (λ l. cc (c .before .is-decimal .ensures, c .if2 .left))
+returns-2 c =
+    let differ : c .before .is-decimal .result ≡ false = c .if2 .left in
+    not-marked _ _ _ (c .before .before .before .number-of .ensures) (c .before .before .before .before .before .before .pre) (λ l. sym (c .before .is-decimal .ensures) ∙ differ)
 
 returns-3 : tie.Need-returns-3
 returns-3 c = not-marked _ _ _ (c .before .number-of .ensures) (c .before .before .before .before .pre) (λ l. absurd (omega arith))

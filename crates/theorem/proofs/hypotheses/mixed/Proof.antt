@@ -33,7 +33,7 @@ kind-requires c κs = c .before .before .before .before .before .pre .inside _ (
 
 returns : tie.Need-returns Inv-loop μ-loop
 returns c =
-    sym (mixed-hit _ _ _ (c .before .before .before .before .before .loop .essential) (c .before .before .before .before .loop-test .taken) (c .before .if1 .taken) (sym (c .before .before .kind .ensures) ∙ c .if2 .taken)) ∙ c .before .before .before .before .before .loop .inv .1
+    sym (mixed-hit _ _ _ (c .before .before .before .before .before .loop .essential) _ (c .before .before .before .before .loop-test .taken) (c .before .before .kind .ensures) (c .before .if1 .taken) (omega arith)) ∙ c .before .before .before .before .before .loop .inv .1
 
 add-i : tie.Need-add-i Inv-loop μ-loop
 add-i c = omega arith
@@ -46,8 +46,8 @@ loop-again c =
     let p = c .before .before .before .before .before .loop in (
       omega arith,
       sym (mixed-next _ _ _ (p .essential) _ (c .before .before .kind .result) (c .before .before .before .before .loop-test .taken) (c .before .before .kind .ensures)
-          (⊎-elim (λ w. inl (w .0 .taken, w .1 .left)) (λ w. inr (w .left)) (c .before .if1 .came))
-          (⊎-elim (λ w. inl (w .0 .taken, w .1)) (λ w. inr (w .0 .left, w .1)) (c .if3 .came)))
+          (⊎-elim (λ w. inl (w .0 .taken, λ one. omega arith)) (λ w. inr (w .left)) (c .before .if1 .came))
+          (⊎-elim (λ w. inl (omega arith, w .1)) (λ w. inr (λ two. omega arith, w .1)) (c .if3 .came)))
           ∙ p .inv .1,
     )
 

@@ -25,7 +25,7 @@ shared-slice-read-if1 : tie.Need-shared-slice-read-if1 Inv-loop μ-loop
 shared-slice-read-if1 c = omega arith
 
 returns : tie.Need-returns Inv-loop μ-loop
-returns c = sym (member-hit _ _ _ (c .before .before .loop-test .taken) (sym (c .if1 .taken))) ∙ c .before .before .before .loop .inv .1
+returns c = sym (member-hit _ _ _ (c .before .before .loop-test .taken) (omega arith)) ∙ c .before .before .before .loop .inv .1
 
 add-i : tie.Need-add-i Inv-loop μ-loop
 add-i c = omega arith
@@ -34,7 +34,7 @@ loop-less : tie.Need-loop-less Inv-loop μ-loop
 loop-less c = omega arith
 
 loop-again : tie.Need-loop-again Inv-loop μ-loop
-loop-again c = (omega arith, sym (member-miss _ _ _ (c .before .before .loop-test .taken) (λ e. c .if1 .left (sym e))) ∙ c .before .before .before .loop .inv .1)
+loop-again c = (omega arith, sym (member-miss _ _ _ (c .before .before .loop-test .taken) (λ e. omega arith)) ∙ c .before .before .before .loop .inv .1)
 
 returns-2 : tie.Need-returns-2 Inv-loop μ-loop
 returns-2 c = sym (member-end _ _ _ (c .loop-test .left)) ∙ c .before .loop .inv .1
