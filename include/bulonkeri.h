@@ -20,12 +20,19 @@
  *    6  a child not below its parent
  *    7  the theorem is not a statement of kind 0, or QED is no entry
  *   10  the theorem's list has a floating after an essential
+ *   13  a normal list of more than 1,000,000 steps
+ *   14  a working slice is too short
  *   15  output does not fit
  *   16  malformed step list or label list
  *   17  malformed letters
+ *   18  the stack is short, or does not hold exactly one item at the end
  *
  * `*written` gets the number of elements written, 0 on a refusal. A refusal leaves `out` as it was; success leaves what lies past the
- * end of the result as it was. */
+ * end of the result as it was (bulonkeri_replay is different, see there). A working slice is left as it was by refusals 1 to 9 and 14,
+ * and all zero by every other ending; its contents at the start do not matter.
+ *
+ * The packed walk calls itself, as deep as the proof is: a chain of 8,192 entries, the deepest that a table can hold, uses a stack of
+ * less than 2 MiB. Nothing proves that the caller's stack is long enough. */
 #ifndef BULONKERI_H
 #define BULONKERI_H
 
@@ -47,6 +54,27 @@ uint32_t bulonkeri_parents(const uint32_t *words, size_t words_length, const uin
 /* The fewest child edges from QED to each entry, 65535 where there is no way. Tests 1 to 7, 15. */
 uint32_t bulonkeri_distances(const uint32_t *words, size_t words_length, const uint8_t *labels, size_t labels_length,
                              uint16_t *out, size_t out_length, uint64_t *written);
+
+/* The packed list from QED, five words a step: reference or 0, mark or 0, statement, parent statement plus 1, hypothesis index. The
+ * last two are 0 unless `explicit`. `work` has at least 8 * (entries + child references + statements + 1) words. At most five words for
+ * each child reference and five more are written. Tests 1 to 7, 14, 15. */
+uint32_t bulonkeri_packed_list(const uint32_t *words, size_t words_length, const uint8_t *labels, size_t labels_length,
+                               bool explicit_list, uint32_t *work, size_t work_length, uint32_t *out, size_t out_length,
+                               uint64_t *written);
+
+/* The normal list, in which everything is repeated. Tests 1 to 7, 14, 13, 15: nothing is walked before 13 is known. */
+uint32_t bulonkeri_normal_list(const uint32_t *words, size_t words_length, const uint8_t *labels, size_t labels_length,
+                               bool explicit_list, uint32_t *work, size_t work_length, uint32_t *out, size_t out_length,
+                               uint64_t *written);
+
+/* A step list that is not explicit, read into new entries (three words each) and their children. Equal entries are found and not
+ * appended again. `work` has at least two words for each step. Tests 1 to 7, 16 (a length that is no multiple of five), 14, which
+ * change nothing; then for each step 16, 18, 15, and 18 at the end: these leave both outputs and `work` all zero. Success leaves what
+ * lies past the ends of the results zero, and `work` too. */
+uint32_t bulonkeri_replay(const uint32_t *words, size_t words_length, const uint8_t *labels, size_t labels_length,
+                          const uint32_t *steps, size_t steps_length, uint32_t *work, size_t work_length,
+                          uint32_t *entries, size_t entries_length, uint32_t *children, size_t children_length,
+                          uint64_t *written_entries, uint64_t *written_children);
 
 /* The step list, five words a step, that letters with their label list spell. Tests 1 to 7, 10, 16 (a list item that is no statement,
  * is in the theorem's list, or stands twice), 17, 15. No letters give no steps. */

@@ -1,10 +1,12 @@
 // The library for C and Rust. A slice is a pointer and a length; each function has the contract of the operation that it calls.
 // The header is include/bulonkeri.h.
-ghost use mathlib.Core.List.{[]};
+ghost use mathlib.Core.Bool.{true, false};
+ghost use mathlib.Core.List.{[], _∷_};
 ghost use mathlib.Core.Path.{_≡_};
 ghost use Rattle.defs.specs.Check.{tableRefusal};
-ghost use Rattle.defs.specs.Outcome.{answerOne, parentsOutcome, distancesOutcome};
+ghost use Rattle.defs.specs.Outcome.{answerOne, answerTwo, parentsOutcome, distancesOutcome, stepListOutcome};
 ghost use Rattle.defs.specs.Decode.{decodeOutcome};
+ghost use Rattle.defs.specs.Replay.{replayOutcome};
 
 #[no_mangle]
 pub extern "C" fn bulonkeri_check(words: &[u32], labels: &[u8]) -> u32
@@ -40,6 +42,60 @@ pub extern "C" fn bulonkeri_distances(
 {
     let answer = counts::distances::distances(words, labels, out);
     *written = answer.length as u64;
+    answer.number
+}
+
+#[no_mangle]
+pub extern "C" fn bulonkeri_packed_list(
+    words: &[u32],
+    labels: &[u8],
+    explicit: bool,
+    work: &mut [u32],
+    out: &mut [u32],
+    written: &mut u64,
+) -> u32
+    ensures { λ r. ⌜ answerOne r (now (written .exit)) (now (work .exit) ∷ []) (now (out .exit))
+        ≡ stepListOutcome (now (words .entry)) (now (labels .entry)) true explicit (now (work .entry)) (now (out .entry)) ⌝ }
+{
+    let answer = lists::packed::packed_list(words, labels, explicit, work, out);
+    *written = answer.length as u64;
+    answer.number
+}
+
+#[no_mangle]
+pub extern "C" fn bulonkeri_normal_list(
+    words: &[u32],
+    labels: &[u8],
+    explicit: bool,
+    work: &mut [u32],
+    out: &mut [u32],
+    written: &mut u64,
+) -> u32
+    ensures { λ r. ⌜ answerOne r (now (written .exit)) (now (work .exit) ∷ []) (now (out .exit))
+        ≡ stepListOutcome (now (words .entry)) (now (labels .entry)) false explicit (now (work .entry)) (now (out .entry)) ⌝ }
+{
+    let answer = lists::normal::normal_list(words, labels, explicit, work, out);
+    *written = answer.length as u64;
+    answer.number
+}
+
+#[no_mangle]
+pub extern "C" fn bulonkeri_replay(
+    words: &[u32],
+    labels: &[u8],
+    steps: &[u32],
+    work: &mut [u32],
+    entries: &mut [u32],
+    children: &mut [u32],
+    written_entries: &mut u64,
+    written_children: &mut u64,
+) -> u32
+    ensures { λ r. ⌜ answerTwo r (now («written_entries» .exit)) (now («written_children» .exit)) (now (work .exit) ∷ []) (now (entries .exit)) (now (children .exit))
+        ≡ replayOutcome (now (words .entry)) (now (labels .entry)) (now (steps .entry)) (now (work .entry)) (now (entries .entry)) (now (children .entry)) ⌝ }
+{
+    let answer = replay::replay(words, labels, steps, work, entries, children);
+    *written_entries = answer.first as u64;
+    *written_children = answer.second as u64;
     answer.number
 }
 

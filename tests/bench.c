@@ -1,0 +1,70 @@
+/* Times the operations of the library on one table file over the C interface: `bench FILE`. Built and run by tests/bench.
+ * A line for each operation: its name, then nanoseconds of the best of several batches; `check` by itself, and each other operation
+ * with the table's check taken off. Operations that the library does not have yet are left out. */
+#include <stdbool.h>
+#include <stdint.h>
+#include <stdio.h>
+#include <stdlib.h>
+#include <string.h>
+#include <time.h>
+
+#define TABLE const uint32_t *, size_t, const uint8_t *, size_t
+uint32_t bulonkeri_check(TABLE);
+uint32_t bulonkeri_parents(TABLE, uint32_t *, size_t, uint64_t *);
+uint32_t bulonkeri_distances(TABLE, uint16_t *, size_t, uint64_t *);
+uint32_t bulonkeri_packed_list(TABLE, bool, uint32_t *, size_t, uint32_t *, size_t, uint64_t *);
+uint32_t bulonkeri_normal_list(TABLE, bool, uint32_t *, size_t, uint32_t *, size_t, uint64_t *);
+#pragma weak bulonkeri_parents
+#pragma weak bulonkeri_distances
+#pragma weak bulonkeri_packed_list
+#pragma weak bulonkeri_normal_list
+
+static uint32_t *words; static uint8_t *labels; static size_t words_n, labels_n;
+static uint32_t *work, *out; static uint16_t *out16; static size_t work_n, out_n = 5000000;
+static uint64_t written;
+
+static uint32_t run_check(void) { return bulonkeri_check(words, words_n, labels, labels_n); }
+static uint32_t run_parents(void) { return bulonkeri_parents(words, words_n, labels, labels_n, out, out_n, &written); }
+static uint32_t run_distances(void) { return bulonkeri_distances(words, words_n, labels, labels_n, out16, out_n, &written); }
+static uint32_t run_packed(void) { return bulonkeri_packed_list(words, words_n, labels, labels_n, false, work, work_n, out, out_n, &written); }
+static uint32_t run_normal(void) { return bulonkeri_normal_list(words, words_n, labels, labels_n, false, work, work_n, out, out_n, &written); }
+
+static double now(void) { struct timespec t; clock_gettime(CLOCK_MONOTONIC, &t); return t.tv_sec * 1e9 + t.tv_nsec; }
+
+/* The best of nine batches, each of about ten milliseconds. */
+static double best(uint32_t (*run)(void), uint32_t *number) {
+    double begin = now(); *number = run(); double one = now() - begin, least = 1e18;
+    long many = one > 1e7 ? 1 : (long)(1e7 / (one + 1)) + 1;
+    for (int batch = 0; batch < 9; batch++) {
+        begin = now();
+        for (long i = 0; i < many; i++) *number = run();
+        double each = (now() - begin) / many;
+        if (each < least) least = each;
+    }
+    return least;
+}
+
+static void show(const char *name, uint32_t (*run)(void), double check) {
+    uint32_t number; double ns = best(run, &number);
+    if (number) printf("%s refused %u\n", name, number);
+    else printf("%s %.0f\n", name, ns - check);
+}
+
+int main(int count, char **arguments) {
+    if (count != 2) { fprintf(stderr, "usage: bench FILE\n"); return 2; }
+    FILE *file = fopen(arguments[1], "rb");
+    uint32_t k;
+    if (!file || fread(&k, 4, 1, file) != 1) { fprintf(stderr, "cannot read %s\n", arguments[1]); return 2; }
+    words_n = k; words = malloc(4 * words_n + 1); labels = malloc(1 << 21);
+    if (fread(words, 4, words_n, file) != words_n) { fprintf(stderr, "%s is cut short\n", arguments[1]); return 2; }
+    labels_n = fread(labels, 1, 1 << 21, file);
+    work_n = 8 * ((size_t)words[0] + words[2] + words[3] + 1);
+    work = calloc(work_n, 4); out = calloc(out_n, 4); out16 = calloc(out_n, 2);
+    uint32_t number; double check = best(run_check, &number);
+    printf("check %.0f\n", check);
+    if (bulonkeri_parents) show("parents", run_parents, check);
+    if (bulonkeri_distances) show("dist", run_distances, check);
+    if (bulonkeri_packed_list) show("packed", run_packed, check);
+    if (bulonkeri_normal_list) show("normal", run_normal, check);
+    return 0;
+}
