@@ -35,7 +35,7 @@ same-length c = search needs
 
 -- src/lib.rt:41:9
 returns : tie.Need-returns
-returns c = wrote-plain _ _ _ _ _ _ _ _ _ (omega arith) (c .before .before .before .before .before .before .step-number .ensures) (c .before .before .before .before .put-code .ensures) (c .if1 .taken)
+returns c = wrote-plain _ _ _ _ _ _ _ _ _ (omega arith) (c .before .before .before .before .before .before .step-number .ensures) (c .before .before .before .before .put-code .ensures) (omega (arith, c .if1 .taken))
 
 -- src/lib.rt:43:5
 put-letter-requires : tie.Need-put-letter-requires
@@ -47,7 +47,7 @@ same-length-2 c = search needs
 
 -- src/lib.rt:26:1
 returns-2 : tie.Need-returns-2
-returns-2 c = wrote-marked _ _ _ _ _ _ _ _ _ (omega arith) (c .before .before .before .before .before .before .before .before .before .before .step-number .ensures) (c .before .before .before .before .before .before .before .before .put-code .ensures) _ _ (c .before .before .before .before .if1 .left) (c .before .before .put-letter .ensures)
+returns-2 c = wrote-marked _ _ _ _ _ _ _ _ _ (omega arith) (c .before .before .before .before .before .before .before .before .before .before .step-number .ensures) (c .before .before .before .before .before .before .before .before .put-code .ensures) _ _ (λ e. omega (arith, c .before .before .before .before .if1 .left)) (c .before .before .put-letter .ensures)
 
 pub put-step-spec : {M : Type 1} → statement M
 put-step-spec =
