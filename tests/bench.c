@@ -14,6 +14,8 @@ uint32_t bulonkeri_parents(TABLE, uint32_t *, size_t, uint64_t *);
 uint32_t bulonkeri_distances(TABLE, uint16_t *, size_t, uint64_t *);
 uint32_t bulonkeri_packed_list(TABLE, bool, uint32_t *, size_t, uint32_t *, size_t, uint64_t *);
 uint32_t bulonkeri_normal_list(TABLE, bool, uint32_t *, size_t, uint32_t *, size_t, uint64_t *);
+uint32_t bulonkeri_replay(TABLE, const uint32_t *, size_t, uint32_t *, size_t, uint32_t *, size_t, uint32_t *, size_t, uint64_t *, uint64_t *);
+#pragma weak bulonkeri_replay
 #pragma weak bulonkeri_parents
 #pragma weak bulonkeri_distances
 #pragma weak bulonkeri_packed_list
@@ -29,6 +31,12 @@ static uint32_t run_distances(void) { return bulonkeri_distances(words, words_n,
 static uint32_t run_packed(void) { return bulonkeri_packed_list(words, words_n, labels, labels_n, false, work, work_n, out, out_n, &written); }
 static uint32_t run_normal(void) { return bulonkeri_normal_list(words, words_n, labels, labels_n, false, work, work_n, out, out_n, &written); }
 
+/* The list that the last call wrote, read back. */
+static uint32_t *steps, *stack, *entries, *children; static size_t steps_n, stack_n; static uint64_t second;
+static uint32_t run_replay(void) {
+    return bulonkeri_replay(words, words_n, labels, labels_n, steps, steps_n, stack, stack_n, entries, 3 * (size_t)words[2], children, words[3] + 1, &written, &second);
+}
+
 static double now(void) { struct timespec t; clock_gettime(CLOCK_MONOTONIC, &t); return t.tv_sec * 1e9 + t.tv_nsec; }
 
 /* The best of nine batches, each of about ten milliseconds. */
@@ -42,6 +50,17 @@ static double best(uint32_t (*run)(void), uint32_t *number) {
         if (each < least) least = each;
     }
     return least;
+}
+
+static void show_replay(const char *name, uint32_t (*list)(void), double check) {
+    if (list()) return;
+    steps_n = written; steps = malloc(4 * steps_n + 1); memcpy(steps, out, 4 * steps_n);
+    stack_n = 2 * (steps_n / 5); stack = malloc(4 * stack_n + 1);
+    entries = malloc(12 * (size_t)words[2] + 1); children = malloc(4 * (size_t)words[3] + 5);
+    uint32_t number; double ns = best(run_replay, &number);
+    if (number) printf("%s refused %u\n", name, number);
+    else printf("%s %.0f (%zu steps, %lu entries)\n", name, ns - check, steps_n / 5, (unsigned long)written / 3);
+    free(steps); free(stack); free(entries); free(children);
 }
 
 static void show(const char *name, uint32_t (*run)(void), double check) {
@@ -66,5 +85,7 @@ int main(int count, char **arguments) {
     if (bulonkeri_distances) show("dist", run_distances, check);
     if (bulonkeri_packed_list) show("packed", run_packed, check);
     if (bulonkeri_normal_list) show("normal", run_normal, check);
+    if (bulonkeri_replay && bulonkeri_packed_list) show_replay("replay-packed", run_packed, check);
+    if (bulonkeri_replay && bulonkeri_normal_list) show_replay("replay-normal", run_normal, check);
     return 0;
 }
