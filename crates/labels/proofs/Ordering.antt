@@ -273,6 +273,7 @@ module _ (w : List ℕ) (from many W cells : ℕ) (ws : List ℕ) (ready : Order
               record {
                 list = λ i l. numbered .only (order-at + i) (inr (omega arith)) ∙ label-at i (omega (arith, labels-long));
                 as-many = labels-long;
+                few = omega (arith, few, s-is);
                 ends = omega (arith, few, s-is);
                 numbers = λ k l.
                     numbered .number labels labels-long (λ i m. label-at i (omega (arith, labels-long))) labels-below labels-once k (omega (arith, s-is))

@@ -35,6 +35,7 @@ pub record OrderReady (w : List ℕ) (from many W cells : ℕ) (ws : List ℕ) :
 pub record Ordered (w : List ℕ) (from many W at : ℕ) (ws ws′ : List ℕ) : Type 0 where
   pub list : Holds at (labelList w W (packedOf w false)) ws′
   pub as-many : many ≡ length (labelList w W (packedOf w false))
+  pub few : many ≤ statements w
   pub ends : at + many ≤ from + arrays * statements w
   pub numbers : (k : ℕ) → k < statements w → word ws′ (from + k)
       ≡ pick (member k (labelList w W (packedOf w false))) (length (mandatory w) + place k (labelList w W (packedOf w false)) + 1)
