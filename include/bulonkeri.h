@@ -76,6 +76,14 @@ uint32_t bulonkeri_replay(const uint32_t *words, size_t words_length, const uint
                           uint32_t *entries, size_t entries_length, uint32_t *children, size_t children_length,
                           uint64_t *written_entries, uint64_t *written_children);
 
+/* The label list (statement numbers) and the letters of the compressed form. `work` has at least 8 * (entries + child references +
+ * statements + 1) words, `sums` at least (statements + 1) * (width - indent + 2). The list has at most one number a statement, the
+ * letters are at most 14 bytes a step of the packed list. Tests 1 to 8, 14 (either working slice), 10 to 12, 15 (either output). */
+uint32_t bulonkeri_letters(const uint32_t *words, size_t words_length, const uint8_t *labels, size_t labels_length,
+                           uint32_t width, uint32_t indent, uint32_t first, uint32_t *work, size_t work_length,
+                           uint16_t *sums, size_t sums_length, uint32_t *list, size_t list_length,
+                           uint8_t *letters, size_t letters_length, uint64_t *written_list, uint64_t *written_letters);
+
 /* The step list, five words a step, that letters with their label list spell. Tests 1 to 7, 10, 16 (a list item that is no statement,
  * is in the theorem's list, or stands twice), 17, 15. No letters give no steps. */
 uint32_t bulonkeri_decode(const uint32_t *words, size_t words_length, const uint8_t *labels, size_t labels_length,

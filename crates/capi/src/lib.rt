@@ -1,10 +1,11 @@
 // The library for C and Rust. A slice is a pointer and a length; each function has the contract of the operation that it calls.
 // The header is include/bulonkeri.h.
+use layout::Layout;
 ghost use mathlib.Core.Bool.{true, false};
 ghost use mathlib.Core.List.{[], _∷_};
 ghost use mathlib.Core.Path.{_≡_};
 ghost use Rattle.defs.specs.Check.{tableRefusal};
-ghost use Rattle.defs.specs.Outcome.{answerOne, answerTwo, parentsOutcome, distancesOutcome, stepListOutcome};
+ghost use Rattle.defs.specs.Outcome.{answerOne, answerTwo, parentsOutcome, distancesOutcome, stepListOutcome, lettersOutcome};
 ghost use Rattle.defs.specs.Decode.{decodeOutcome};
 ghost use Rattle.defs.specs.Replay.{replayOutcome};
 
@@ -76,6 +77,36 @@ pub extern "C" fn bulonkeri_normal_list(
 {
     let answer = lists::normal::normal_list(words, labels, explicit, work, out);
     *written = answer.length as u64;
+    answer.number
+}
+
+#[no_mangle]
+pub extern "C" fn bulonkeri_letters(
+    words: &[u32],
+    labels: &[u8],
+    width: u32,
+    indent: u32,
+    first: u32,
+    work: &mut [u32],
+    sums: &mut [u16],
+    list: &mut [u32],
+    letters: &mut [u8],
+    written_list: &mut u64,
+    written_letters: &mut u64,
+) -> u32
+    ensures { λ r. ⌜ answerTwo r (now («written_list» .exit)) (now («written_letters» .exit)) (now (work .exit) ∷ now (sums .exit) ∷ [])
+        (now (list .exit)) (now (letters .exit))
+        ≡ lettersOutcome (now (words .entry)) (now (labels .entry)) (record { width = width; indent = indent; first = first })
+        (now (work .entry)) (now (sums .entry)) (now (list .entry)) (now (letters .entry)) ⌝ }
+{
+    let layout = Layout {
+        width,
+        indent,
+        first,
+    };
+    let answer = order::label_letters(words, labels, layout, work, sums, list, letters);
+    *written_list = answer.first as u64;
+    *written_letters = answer.second as u64;
     answer.number
 }
 
