@@ -1,8 +1,7 @@
 -- Laws that speak of no function: of the bounds of a layout, of the part of a slice that is still free, of a text that grows by
--- pieces, of the text laid so far, of what stands before a word, of the turns in which letters are cut.
+-- pieces, of the text laid so far, of what stands before a word, of letters cut.
 pub mod Within
 pub mod Free
 pub mod Wrote
 pub mod Words
-pub mod Turns
 pub mod Cutting

@@ -1,7 +1,7 @@
 -- Lines in the code and in the definitions: how a word is begun, and what a slice holds of the text laid so far.
 use mathlib.Core.Path.{_≡_}
 use mathlib.Core.List.{List, [], _∷_, _++_}
-use Prim.Native.Nat.{ℕ, _+_, _*_, _<_, _≤_}
+use Prim.Native.Nat.{ℕ, _+_, _<_, _≤_}
 use lib.Dec.{ltb}
 use lib.ListN.{length, drop}
 use Rattle.laws.specs.Tools.{pick}
@@ -50,7 +50,3 @@ mostBefore = maxWidth
 -- the next word of a line begins below the farthest place
 abbrev pub Near : End → Type 0
 Near line = line .end + mostBefore < farthest
-
--- n letters are cut into at most 2 n + 1 words
-abbrev pub mostCut : ℕ → ℕ
-mostCut n = n + mostBefore * (2 * n + 1)

@@ -1,3 +1,4 @@
 -- What the contracts of this crate cite, beside the definitions of crate defs.
 pub mod Layouts
 pub mod Laid
+pub mod Streams

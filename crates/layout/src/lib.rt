@@ -2,7 +2,7 @@
 // Every writer counts always and stores only where the slice is long enough: lent an empty slice, it measures.
 pub mod bounds; // bounds.rt: width, indent and first position, their defaults and bounds
 pub mod bytes; // bytes.rt: bytes put into a slice where they fit
-pub mod cuts; // cuts.rt: the room for letters, and letters cut
+pub mod cuts; // cuts.rt: letters cut while they are made
 pub mod lines; // lines.rt: the beginning, a word, the last word
 
 pub use bounds::Layout;
