@@ -92,11 +92,19 @@ letters-one : (thm labels : List ℕ) (t : Step) → lettersOf thm labels (t ∷
 unfolding lettersOf
 letters-one thm labels t = append-nil (stepLetters thm labels t)
 
-abbrev any-step : Step
+abbrev pub any-step : Step
 any-step = record { ref = 0; mark = 0; stmt = 0; parent = 0; index = 0 }
 
+-- a loop's turn, from i steps to i + 1
+pub letters-next : (thm labels : List ℕ) (ts : List Step) (i : ℕ) → i < length ts
+    → lettersOf thm labels (take (i + 1) ts) ≡ lettersOf thm labels (take i ts) ++ stepLetters thm labels (getD ts i any-step)
+letters-next thm labels ts i h =
+    let t = getD ts i any-step in
+    let more : take (i + 1) ts ≡ take i ts ++ (t ∷ []) = ap (λ (k : ℕ). take k ts) (add-one i) ∙ take-suc ts i any-step h in
+    ap (lettersOf thm labels) more ∙ letters-append thm labels (take i ts) (t ∷ []) ∙ ap (λ (x : List ℕ). lettersOf thm labels (take i ts) ++ x) (letters-one thm labels t)
+
 -- step i is said
-step-said : (steps many numbers both i : ℕ) (ws thm labels : List ℕ) (ts : List Step) → SaysAll steps many numbers both ws thm labels ts → i < many
+pub step-said : (steps many numbers both i : ℕ) (ws thm labels : List ℕ) (ts : List Step) → SaysAll steps many numbers both ws thm labels ts → i < many
     → Says (steps + stepSize * i) numbers both ws thm labels (getD ts i any-step)
 unfolding stepWords
 step-said steps many numbers both i ws thm labels ts s l =
@@ -146,12 +154,8 @@ turn steps many numbers both i end end′ ws before between after w l len one =
       near = omega (arith, w .near, one .near);
       same-length = len ∙ w .same-length;
       wrote = λ thm labels ts s.
-          let t = getD ts i any-step in
-          let more : take (i + 1) ts ≡ take i ts ++ (t ∷ []) = ap (λ (k : ℕ). take k ts) (add-one i) ∙ take-suc ts i any-step (omega (arith, s .as-many)) in
-          let text : lettersOf thm labels (take (i + 1) ts) ≡ lettersOf thm labels (take i ts) ++ stepLetters thm labels t =
-          ap (lettersOf thm labels) more ∙ letters-append thm labels (take i ts) (t ∷ []) ∙ ap (λ (x : List ℕ). lettersOf thm labels (take i ts) ++ x) (letters-one thm labels t) in
-          subst (λ (x : List ℕ). Grows x 0 end′ before after) (sym text)
-          (grows-then (w .wrote thm labels ts s) (one .wrote thm labels t (step-said steps many numbers both i ws thm labels ts s l)));
+          subst (λ (x : List ℕ). Grows x 0 end′ before after) (sym (letters-next thm labels ts i (omega (arith, s .as-many))))
+          (grows-then (w .wrote thm labels ts s) (one .wrote thm labels (getD ts i any-step) (step-said steps many numbers both i ws thm labels ts s l)));
     }
 
 pub all-written : (steps many numbers both i end : ℕ) (ws before after : List ℕ) → i ≡ many → WroteTo steps many numbers both i end ws before after

@@ -7,7 +7,10 @@ ghost use Rattle.laws.specs.Puts.{farthest};
 ghost use Rattle.lettering.specs.Said.{mostStep, StepReady, NumberIs, StepWrote, ListReady, ListWrote};
 
 // A step is five u32: reference, mark, statement, and two that only explicit lists use.
-const STEP_WORDS: usize = 5;
+pub const STEP_WORDS: usize = 5;
+
+// No step has more letters: those of its number, and a `Z`.
+pub const MOST_LETTERS: usize = 14;
 
 // The number of the step at `at`. Those of statements stand from `numbers` on, plus 1; a reference adds both lengths and its mark − 1.
 fn step_number(work: &[u32], at: usize, numbers: usize, both: u32) -> u32
@@ -23,7 +26,14 @@ fn step_number(work: &[u32], at: usize, numbers: usize, both: u32) -> u32
 }
 
 // The letters of the step at `at`: a marked step is followed by `Z`.
-fn put_step(work: &[u32], at: usize, numbers: usize, both: u32, end: usize, out: &mut [u8]) -> usize
+pub fn put_step(
+    work: &[u32],
+    at: usize,
+    numbers: usize,
+    both: u32,
+    end: usize,
+    out: &mut [u8],
+) -> usize
     requires { ⌜ StepReady at numbers both (now work) ⌝ }
     requires { ⌜ end + mostStep < farthest ⌝ }
     ensures { λ r. ⌜ StepWrote at numbers both end r (now (work .entry)) (now (out .entry)) (now (out .exit)) ⌝ }
