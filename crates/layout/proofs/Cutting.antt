@@ -41,7 +41,7 @@ word-next l s word h = rw (le-ltb (s .at + length word) (l .width) h)
 
 -- ---- some letters
 
-streamed-append : (l : Layout) (s : Line) (xs ys : List ℕ) → streamed l s (xs ++ ys) ≡ streamed l (streamed l s xs) ys
+pub streamed-append : (l : Layout) (s : Line) (xs ys : List ℕ) → streamed l s (xs ++ ys) ≡ streamed l (streamed l s xs) ys
 unfolding streamed
 streamed-append l s [] ys = refl
 streamed-append l s (x ∷ xs) ys = streamed-append l (putLetter l s x) xs ys
