@@ -87,6 +87,12 @@ lays-word l {k} {word = word} e a g =
       near = omega (arith, a .near, g .ends);
     }
 
+-- a word, named
+pub lays-named : (l : Layout) (name : List ℕ) {word : List ℕ} {line next : End} {before after : List ℕ}
+    → Lays (λ s. putWord l s word) (mostBefore + length word) line next before after → word ≡ name
+    → Lays (λ s. putWord l s name) (mostBefore + length name) line next before after
+lays-named l name laid e = rw e at laid
+
 -- the text with the last word
 pub closed : (l : Layout) (s : Line) → close l s ≡ putWord l s endWord .text
 unfolding close
