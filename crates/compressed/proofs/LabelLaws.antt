@@ -15,6 +15,7 @@ use Rattle.layout.specs.declared.lines.Line.{Line as End}
 use Rattle.layout.specs.Laid.{mostBefore, Lays}
 use Rattle.layout.proofs.Words.{words-more}
 use Rattle.layout.proofs.Wrote.{lays-none, lays-then, lays-as}
+use Rattle.compressed.specs.declared.places.Places.{Places}
 use Rattle.compressed.specs.Listed.{mostLabel, LabelReady, LabelsReady}
 
 -- one label, where its record says that it lies
@@ -30,23 +31,23 @@ lays-label l ss b k start len ready from long laid =
     lays-as laid (λ s. putWord l s (labelIn ss b k)) mostLabel (λ s. ap (putWord l s) (sym label)) (omega (arith, ready .short))
 
 -- the first i labels are laid
-pub record LabelsTo (l : Layout) (ss b : List ℕ) (at many : ℕ) (ws : List ℕ) (i : ℕ) (first line : End) (before after : List ℕ) : Type 0 where
-  pub inside : i ≤ many
-  pub laid : Lays (λ s. putWords l s (map (labelIn ss b) (part at i ws))) (mostLabel * i) first line before after
+pub record LabelsTo (l : Layout) (ss b : List ℕ) (p : Places) (ws : List ℕ) (i : ℕ) (first line : End) (before after : List ℕ) : Type 0 where
+  pub inside : i ≤ p .listed
+  pub laid : Lays (λ s. putWords l s (map (labelIn ss b) (part (p .list) i ws))) (mostLabel * i) first line before after
 
 part-more : (at i : ℕ) (ws : List ℕ) → at + i < length ws → part at (i + 1) ws ≡ part at i ws ++ (word ws (at + i) ∷ [])
 part-more at i ws h =
     rw (add-one i, take-suc (drop at ws) i 0 (rw length-drop (omega arith))) (ap (λ (x : ℕ). part at i ws ++ (x ∷ [])) (getD-drop at ws i 0))
 
-module _ (l : Layout) (ss b : List ℕ) (at many : ℕ) (ws : List ℕ) where
-  pub labels-none : (i : ℕ) (line : End) (o : List ℕ) → i ≡ 0 → LabelsTo l ss b at many ws i line line o o
+module _ (l : Layout) (ss b : List ℕ) (p : Places) (ws : List ℕ) where
+  pub labels-none : (i : ℕ) (line : End) (o : List ℕ) → i ≡ 0 → LabelsTo l ss b p ws i line line o o
   unfolding putWords
   labels-none i line o e =
-      rw e (record { inside = omega arith; laid = lays-as (lays-none line o) (λ s. putWords l s (map (labelIn ss b) (part at 0 ws))) (mostLabel * 0) (λ s. refl) (omega arith) })
+      rw e (record { inside = omega arith; laid = lays-as (lays-none line o) (λ s. putWords l s (map (labelIn ss b) (part (p .list) 0 ws))) (mostLabel * 0) (λ s. refl) (omega arith) })
 
-  module _ (ready : LabelsReady ss b at many ws) (i : ℕ) (h : i < many) where
+  module _ (ready : LabelsReady ss b p ws) (i : ℕ) (h : i < p .listed) where
     -- label i can be laid
-    pub label-ready : LabelReady ss b (word ws (at + i))
+    pub label-ready : LabelReady ss b (word ws (p .list + i))
     label-ready =
         let k = ready .below i h in
         record {
@@ -55,19 +56,19 @@ module _ (l : Layout) (ss b : List ℕ) (at many : ℕ) (ws : List ℕ) where
           short = ready .statements .label-most _ k;
         }
 
-    pub labels-more : {k : ℕ} {first line next : End} {before between after : List ℕ} → k ≡ word ws (at + i)
-        → LabelsTo l ss b at many ws i first line before between
-        → Lays (λ s. putWord l s (labelIn ss b k)) mostLabel line next between after → LabelsTo l ss b at many ws (i + 1) first next before after
+    pub labels-more : {k : ℕ} {first line next : End} {before between after : List ℕ} → k ≡ word ws (p .list + i)
+        → LabelsTo l ss b p ws i first line before between
+        → Lays (λ s. putWord l s (labelIn ss b k)) mostLabel line next between after → LabelsTo l ss b p ws (i + 1) first next before after
     labels-more e t one =
         record {
           inside = omega arith;
-          laid = lays-as (lays-then (t .laid) one) (λ s. putWords l s (map (labelIn ss b) (part at (i + 1) ws))) (mostLabel * (i + 1))
-              (λ s. rw (part-more at i ws (omega (arith, ready .list-in)), map-snoc (labelIn ss b) (part at i ws) (word ws (at + i)), e)
-              (words-more l s (map (labelIn ss b) (part at i ws)) (labelIn ss b (word ws (at + i))))) (omega arith);
+          laid = lays-as (lays-then (t .laid) one) (λ s. putWords l s (map (labelIn ss b) (part (p .list) (i + 1) ws))) (mostLabel * (i + 1))
+              (λ s. rw (part-more (p .list) i ws (omega (arith, ready .list-in)), map-snoc (labelIn ss b) (part (p .list) i ws) (word ws (p .list + i)), e)
+              (words-more l s (map (labelIn ss b) (part (p .list) i ws)) (labelIn ss b (word ws (p .list + i))))) (omega arith);
         }
 
-  pub labels-all : {i : ℕ} {first line : End} {before after : List ℕ} → many ≤ i → LabelsTo l ss b at many ws i first line before after
-      → Lays (λ s. putWords l s (map (labelIn ss b) (part at many ws))) (mostLabel * many) first line before after
+  pub labels-all : {i : ℕ} {first line : End} {before after : List ℕ} → p .listed ≤ i → LabelsTo l ss b p ws i first line before after
+      → Lays (λ s. putWords l s (map (labelIn ss b) (part (p .list) (p .listed) ws))) (mostLabel * p .listed) first line before after
   labels-all {i} h t =
-      let e : many ≡ i = omega (arith, t .inside) in
+      let e : p .listed ≡ i = omega (arith, t .inside) in
       rw e (t .laid)

@@ -14,9 +14,10 @@ use Rattle.layout.specs.Laid.{Lays}
 use Rattle.layout.specs.Streams.{streamed, mostLetter}
 use Rattle.layout.proofs.Cutting.{streamed-append}
 use Rattle.layout.proofs.Wrote.{lays-none, lays-then, lays-as}
-use Rattle.lettering.specs.Said.{mostStep, Says, SaysAll, StepWrote}
+use Rattle.lettering.specs.Said.{mostStep, Says, StepWrote}
 use Rattle.lettering.proofs.Lemmas.{any-step, letters-next, step-said}
-use Rattle.compressed.specs.Stepped.{mostLaid, StepLaid, StepsLaid}
+use Rattle.compressed.specs.declared.places.Places.{Places}
+use Rattle.compressed.specs.Stepped.{mostLaid, StepLaid, SaysAt, StepsLaid}
 
 -- ---- one step
 
@@ -38,13 +39,13 @@ module _ {at numbers both end : ℕ} {ws start letters : List ℕ} (w : StepWrot
 -- ---- a list of steps
 
 -- the letters of the first i steps are laid
-pub record StepsTo (l : Layout) (steps many numbers both : ℕ) (ws : List ℕ) (i : ℕ) (first line : End) (before after : List ℕ) : Type 0 where
-  pub inside : i ≤ many
-  pub laid : (thm labels : List ℕ) (ts : List Step) → SaysAll steps many numbers both ws thm labels ts
+pub record StepsTo (l : Layout) (p : Places) (ws : List ℕ) (i : ℕ) (first line : End) (before after : List ℕ) : Type 0 where
+  pub inside : i ≤ p .many
+  pub laid : (thm labels : List ℕ) (ts : List Step) → SaysAt p ws thm labels ts
       → Lays (λ s. streamed l s (lettersOf thm labels (take i ts))) (mostLaid * i) first line before after
 
-module _ (l : Layout) (steps many numbers both : ℕ) (ws : List ℕ) where
-  pub steps-none : (i : ℕ) (line : End) (o : List ℕ) → i ≡ 0 → StepsTo l steps many numbers both ws i line line o o
+module _ (l : Layout) (p : Places) (ws : List ℕ) where
+  pub steps-none : (i : ℕ) (line : End) (o : List ℕ) → i ≡ 0 → StepsTo l p ws i line line o o
   unfolding streamed lettersOf
   steps-none i line o e =
       rw e (record {
@@ -52,22 +53,22 @@ module _ (l : Layout) (steps many numbers both : ℕ) (ws : List ℕ) where
         laid = λ thm labels ts says. lays-as (lays-none line o) (λ s. streamed l s (lettersOf thm labels (take 0 ts))) (mostLaid * 0) (λ s. refl) (omega arith);
       })
 
-  pub steps-more : {i at : ℕ} {first line next : End} {before between after : List ℕ} → i < many → at ≡ steps + stepSize * i
-      → StepsTo l steps many numbers both ws i first line before between → StepLaid l at numbers both line next ws between after
-      → StepsTo l steps many numbers both ws (i + 1) first next before after
+  pub steps-more : {i at : ℕ} {first line next : End} {before between after : List ℕ} → i < p .many → at ≡ p .steps + stepSize * i
+      → StepsTo l p ws i first line before between → StepLaid l at (p .numbers) (p .both) line next ws between after
+      → StepsTo l p ws (i + 1) first next before after
   steps-more {i} {at} h e t one =
       record {
         inside = omega arith;
         laid = λ thm labels ts says.
             let step : Step = getD ts i any-step in
-            let said : Says at numbers both ws thm labels step = rw e (step-said steps many numbers both i ws thm labels ts says h) in
+            let said : Says at (p .numbers) (p .both) ws thm labels step = rw e (step-said (p .steps) (p .many) (p .numbers) (p .both) i ws thm labels ts says h) in
             lays-as (lays-then (t .laid thm labels ts says) (one thm labels step said)) (λ s. streamed l s (lettersOf thm labels (take (i + 1) ts))) (mostLaid * (i + 1))
             (λ s. ap (streamed l s) (letters-next thm labels ts i (omega (arith, says .as-many))) ∙ streamed-append l s (lettersOf thm labels (take i ts)) (stepLetters thm labels step))
             (omega arith);
       }
 
-  pub steps-all : {i : ℕ} {first line : End} {before after : List ℕ} → many ≤ i → StepsTo l steps many numbers both ws i first line before after
-      → StepsLaid l steps many numbers both first line ws before after
+  pub steps-all : {i : ℕ} {first line : End} {before after : List ℕ} → p .many ≤ i → StepsTo l p ws i first line before after
+      → StepsLaid l p first line ws before after
   steps-all {i} h t thm labels ts says =
-      lays-as (t .laid thm labels ts says) (λ s. streamed l s (lettersOf thm labels ts)) (mostLaid * many)
+      lays-as (t .laid thm labels ts says) (λ s. streamed l s (lettersOf thm labels ts)) (mostLaid * p .many)
       (λ s. ap (λ (x : List Step). streamed l s (lettersOf thm labels x)) (sym (take-all i ts (omega (arith, says .as-many))))) (omega (arith, t .inside))

@@ -20,9 +20,8 @@ use Rattle.layout.proofs.Within.{Bounds}
 use Rattle.layout.proofs.Words.{put-at, passed-here, passed-next}
 use Rattle.layout.proofs.Wrote.{wrote-all}
 use Rattle.layout.proofs.Cutting.{letters-streamed}
-use Rattle.lettering.specs.Said.{SaysAll}
-use Rattle.compressed.specs.declared.text.Places.{Places}
-use Rattle.compressed.specs.Stepped.{StepsLaid}
+use Rattle.compressed.specs.declared.places.Places.{Places}
+use Rattle.compressed.specs.Stepped.{SaysAt, StepsLaid}
 use Rattle.compressed.specs.Texts.{compressedIn, TextWrote}
 
 -- after a word of one byte the position is at most the width
@@ -50,12 +49,12 @@ module _ (l : Layout) (ss b : List ℕ) (p : Places) (ws : List ℕ) (bounds : B
       → Lays (λ s. putWords l s (map (labelIn ss b) (part (p .list) (p .listed) ws))) m2 opened listed o2 o3
       → Lays (λ s. putWord l s right) m3 listed closed o3 o4
       → Lays (λ s. putWord l s []) m4 closed started o4 o5
-      → StepsLaid l (p .steps) (p .many) (p .numbers) (p .both) started lettered ws o5 o6
+      → StepsLaid l p started lettered ws o5 o6
       → Lays (λ s. putWord l s endWord) m5 lettered ended o6 o7
       → left ≡ openParen ∷ [] → right ≡ closeParen ∷ [] → r ≡ ended .end
       → TextWrote l ss b p r ws o o7
   text-wrote {ended = ended} {o = o} {o7 = o7} begun opened listed closed started lettered ended-is open-is close-is r-is =
-      let wrote : (thm order : List ℕ) (ts : List Step) → part (p .list) (p .listed) ws ≡ order → SaysAll (p .steps) (p .many) (p .numbers) (p .both) ws thm order ts
+      let wrote : (thm order : List ℕ) (ts : List Step) → part (p .list) (p .listed) ws ≡ order → SaysAt p ws thm order ts
       → Wrote (laidText order (lettersOf thm order ts)) ended o o7 = λ thm order ts e says.
       let s1 = (rw open-is at opened) .lays _ o begun in
       let s2 = (rw e at listed) .lays _ o s1 in

@@ -8,6 +8,7 @@ use Rattle.defs.specs.Sections.{StatementsOk}
 use Rattle.table.specs.Records.{StatementIn}
 use Rattle.layout.specs.Laid.{mostBefore}
 use Rattle.layout.specs.declared.lines.Line.{Line}
+use Rattle.compressed.specs.declared.places.Places.{Places}
 
 -- a label, and what stands before it
 abbrev pub mostLabel : ℕ
@@ -23,9 +24,9 @@ pub record LabelReady (ss b : List ℕ) (k : ℕ) : Type 0 where
   pub label-in : labelStartIn ss k + labelLengthIn ss k ≤ length b
   pub short : labelLengthIn ss k ≤ maxLabelLength
 
--- `many` statement numbers from `at` on, over a statement section with its label bytes
-pub record LabelsReady (ss b : List ℕ) (at many : ℕ) (ws : List ℕ) : Type 0 where
+-- a label list of statement numbers, over a statement section with its label bytes
+pub record LabelsReady (ss b : List ℕ) (p : Places) (ws : List ℕ) : Type 0 where
   pub s : ℕ
   pub statements : StatementsOk ss b s
-  pub list-in : at + many ≤ length ws
-  pub below : (i : ℕ) → i < many → word ws (at + i) < s
+  pub list-in : p .list + p .listed ≤ length ws
+  pub below : (i : ℕ) → i < p .listed → word ws (p .list + i) < s

@@ -17,8 +17,9 @@ use Rattle.defs.specs.Layout.{Layout, bad8, widest}
 use Rattle.defs.specs.Text.{packedOf, labelsOf, lettersFor, compressedText, textOf}
 use Rattle.defs.specs.Refusals.{bad12}
 use Rattle.defs.specs.LineLaws.{LinesFit, lines-fit}
-use Rattle.lettering.specs.Said.{SaysAll, ListReady}
-use Rattle.compressed.specs.declared.text.Places.{Places}
+use Rattle.lettering.specs.Said.{ListReady}
+use Rattle.compressed.specs.declared.places.Places.{Places}
+use Rattle.compressed.specs.Stepped.{SaysAt}
 use Rattle.compressed.specs.Texts.{compressedIn, TextReady, TextWrote}
 
 -- over a table's statement section the text is the table's
@@ -54,7 +55,7 @@ text-ready w b ok p ws order holds inside below few-listed few-steps steps =
 -- what is written of a table that is not refused: its text in style 0, of which no line exceeds the width, counting the first position
 module _ (w b : List ℕ) (l : Layout) (p : Places) {r : ℕ} {ws before after : List ℕ} (wrote : TextWrote l (statementWords w) b p r ws before after)
     (holds : part (p .list) (p .listed) ws ≡ labelsOf w l)
-    (says : SaysAll (p .steps) (p .many) (p .numbers) (p .both) ws (mandatory w) (labelsOf w l) (packedOf w false)) where
+    (says : SaysAt p ws (mandatory w) (labelsOf w l) (packedOf w false)) where
   pub ends-style : r ≡ length (textOf w b 0 l)
   ends-style = wrote .ends (mandatory w) (labelsOf w l) (packedOf w false) holds says ∙ ap length (text-of-style w b l)
 

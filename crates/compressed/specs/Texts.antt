@@ -10,9 +10,10 @@ use Rattle.defs.specs.Steps.{Step}
 use Rattle.defs.specs.Letters.{lettersOf}
 use Rattle.defs.specs.Layout.{Layout, Line, begin, putWord, putWords, putLetters}
 use Rattle.defs.specs.Text.{close}
-use Rattle.lettering.specs.Said.{SaysAll, ListReady}
-use Rattle.compressed.specs.declared.text.Places.{Places}
+use Rattle.lettering.specs.Said.{ListReady}
+use Rattle.compressed.specs.declared.places.Places.{Places}
 use Rattle.compressed.specs.Listed.{LabelsReady}
+use Rattle.compressed.specs.Stepped.{SaysAt}
 
 -- style 0: `(`, labels, `)`, then letters cut
 unfoldable pub compressedIn : (ss b : List ℕ) → Layout → (order letters : List ℕ) → List ℕ
@@ -25,14 +26,14 @@ compressedIn ss b l order letters =
 -- the label list and the steps stand in the words, and neither is so long that an end could wrap
 pub record TextReady (ss b : List ℕ) (p : Places) (ws : List ℕ) : Type 0 where
   pub few-listed : p .listed ≤ maxWord
-  pub labels : LabelsReady ss b (p .list) (p .listed) ws
+  pub labels : LabelsReady ss b p ws
   pub few-steps : p .many ≤ maxWord
   pub steps : ListReady (p .steps) (p .many) (p .numbers) (p .both) ws
 
 -- whatever label list the words hold, and whatever theorem's list and steps they say, r is the end of that text;
 -- where it fits, it stands at the front of the slice, which is past it as it was before
 pub record TextWrote (l : Layout) (ss b : List ℕ) (p : Places) (r : ℕ) (ws before after : List ℕ) : Type 0 where
-  pub ends : (thm order : List ℕ) (ts : List Step) → part (p .list) (p .listed) ws ≡ order → SaysAll (p .steps) (p .many) (p .numbers) (p .both) ws thm order ts
+  pub ends : (thm order : List ℕ) (ts : List Step) → part (p .list) (p .listed) ws ≡ order → SaysAt p ws thm order ts
       → r ≡ length (compressedIn ss b l order (lettersOf thm order ts))
-  pub fits : (thm order : List ℕ) (ts : List Step) → part (p .list) (p .listed) ws ≡ order → SaysAll (p .steps) (p .many) (p .numbers) (p .both) ws thm order ts
+  pub fits : (thm order : List ℕ) (ts : List Step) → part (p .list) (p .listed) ws ≡ order → SaysAt p ws thm order ts
       → r ≤ length before → after ≡ over (compressedIn ss b l order (lettersOf thm order ts)) before

@@ -1,4 +1,5 @@
 // The labels of the label list, laid as words.
+use crate::places::Places;
 use layout::Layout;
 use layout::Line;
 use layout::lines::put_word;
@@ -35,26 +36,24 @@ fn put_label(
     put_word(layout, line, &labels[start..end], out)
 }
 
-// The label list is `many` statement numbers that stand from `at` on.
 pub fn put_labels(
     layout: Layout,
     line: Line,
     statements: &[u32],
     labels: &[u8],
     work: &[u32],
-    at: usize,
-    many: usize,
+    places: Places,
     out: &mut [u8],
 ) -> Line
     requires { ⌜ bad8 (layoutOf layout) ≡ false ⌝ }
-    requires { ⌜ NearLabels many line × LabelsReady (now statements) (now labels) at many (now work) ⌝ }
-    ensures { λ r. ⌜ Lays (λ s. putWords (layoutOf layout) s (map (labelIn (now (statements .entry)) (now (labels .entry))) (part at many (now (work .entry)))))
-        (mostLabel * many) line r (now (out .entry)) (now (out .exit)) ⌝ }
+    requires { ⌜ NearLabels (places .listed) line × LabelsReady (now statements) (now labels) places (now work) ⌝ }
+    ensures { λ r. ⌜ Lays (λ s. putWords (layoutOf layout) s (map (labelIn (now (statements .entry)) (now (labels .entry))) (part (places .list) (places .listed) (now (work .entry)))))
+        (mostLabel * places .listed) line r (now (out .entry)) (now (out .exit)) ⌝ }
 {
     let mut laid = line;
     let mut i: usize = 0;
-    while i < many {
-        let k = StatementNo(work[at + i]);
+    while i < places.listed {
+        let k = StatementNo(work[places.list + i]);
         laid = put_label(layout, laid, statements, labels, k, out);
         i += 1;
     }

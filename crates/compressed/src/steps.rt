@@ -1,4 +1,5 @@
 // The letters of the steps, each cut to the lines as soon as it is made.
+use crate::places::Places;
 use layout::Layout;
 use layout::Line;
 use layout::cuts::put_letters;
@@ -17,44 +18,33 @@ fn put_step(
     line: Line,
     work: &[u32],
     at: usize,
-    numbers: usize,
-    both: u32,
+    places: Places,
     out: &mut [u8],
 ) -> Line
     requires { ⌜ bad8 (layoutOf layout) ≡ false ⌝ }
-    requires { ⌜ NearSteps 1 line × StepReady at numbers both (now work) ⌝ }
-    ensures { λ r. ⌜ StepLaid (layoutOf layout) at numbers both line r (now (work .entry)) (now (out .entry)) (now (out .exit)) ⌝ }
+    requires { ⌜ NearSteps 1 line × StepReady at (places .numbers) (places .both) (now work) ⌝ }
+    ensures { λ r. ⌜ StepLaid (layoutOf layout) at (places .numbers) (places .both) line r (now (work .entry)) (now (out .entry)) (now (out .exit)) ⌝ }
 {
     let mut letters = [0u8; MOST_LETTERS];
-    let end = lettering::put_step(work, at, numbers, both, 0, &mut letters);
+    let end = lettering::put_step(work, at, places.numbers, places.both, 0, &mut letters);
     put_letters(layout, line, &letters[..end], out)
 }
 
-// Those of `many` steps that stand from `steps` on.
-pub fn put_steps(
-    layout: Layout,
-    line: Line,
-    work: &[u32],
-    steps: usize,
-    many: usize,
-    numbers: usize,
-    both: u32,
-    out: &mut [u8],
-) -> Line
+// Those of all steps.
+pub fn put_steps(layout: Layout, line: Line, work: &[u32], places: Places, out: &mut [u8]) -> Line
     requires { ⌜ bad8 (layoutOf layout) ≡ false ⌝ }
-    requires { ⌜ NearSteps many line × ListReady steps many numbers both (now work) ⌝ }
-    ensures { λ r. ⌜ StepsLaid (layoutOf layout) steps many numbers both line r (now (work .entry)) (now (out .entry)) (now (out .exit)) ⌝ }
+    requires { ⌜ NearSteps (places .many) line × ListReady (places .steps) (places .many) (places .numbers) (places .both) (now work) ⌝ }
+    ensures { λ r. ⌜ StepsLaid (layoutOf layout) places line r (now (work .entry)) (now (out .entry)) (now (out .exit)) ⌝ }
 {
     let mut laid = line;
     let mut i: usize = 0;
-    while i < many {
+    while i < places.many {
         laid = put_step(
             layout,
             laid,
             work,
-            steps + STEP_WORDS * i,
-            numbers,
-            both,
+            places.steps + STEP_WORDS * i,
+            places,
             out,
         );
         i += 1;

@@ -1,5 +1,6 @@
 // The compressed text: `(`, the labels, `)`, the letters of the steps, `$.`.
 use crate::labels::put_labels;
+use crate::places::Places;
 use crate::steps::put_steps;
 use layout::Layout;
 use layout::cuts::open_letters;
@@ -16,19 +17,6 @@ const OPEN: [u8; 1] = *b"(";
 
 const CLOSE: [u8; 1] = *b")";
 
-// Where the working slice has what is written.
-pub struct Places {
-    // The label list: its statement numbers from here on, so many of them.
-    pub list: usize,
-    pub listed: usize,
-    // The packed list: its steps from here on, so many of them.
-    pub steps: usize,
-    pub many: usize,
-    // The numbers of the statements plus 1, and the number of the first mark: the lengths of the theorem's list and the label list.
-    pub numbers: usize,
-    pub both: u32,
-}
-
 // Answers where the text ends.
 pub fn compressed_text(
     layout: Layout,
@@ -44,28 +32,10 @@ pub fn compressed_text(
 {
     let begun = begin(layout, out);
     let opened = put_word(layout, begun, &OPEN, out);
-    let listed = put_labels(
-        layout,
-        opened,
-        statements,
-        labels,
-        work,
-        places.list,
-        places.listed,
-        out,
-    );
+    let listed = put_labels(layout, opened, statements, labels, work, places, out);
     let closed = put_word(layout, listed, &CLOSE, out);
     let started = open_letters(layout, closed, out);
-    let lettered = put_steps(
-        layout,
-        started,
-        work,
-        places.steps,
-        places.many,
-        places.numbers,
-        places.both,
-        out,
-    );
+    let lettered = put_steps(layout, started, work, places, out);
     let ended = close(layout, lettered, out);
     ended.end
 }

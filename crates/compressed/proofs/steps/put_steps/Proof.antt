@@ -10,13 +10,13 @@ use Rattle.compressed.proofs.steps.put_steps.Statement.{statement}
 use Rattle.compressed.proofs.steps.put_steps.Tie as tie
 
 abbrev Inv-loop : tie.InvT-loop
-Inv-loop layout work steps many numbers both out₀ laid₀ i₀ out laid i = StepsTo (layoutOf layout) steps many numbers both work i laid₀ laid out₀ out
+Inv-loop layout work places out₀ laid₀ i₀ out laid i = StepsTo (layoutOf layout) places work i laid₀ laid out₀ out
 
 abbrev μ-loop : tie.MeasureT-loop
-μ-loop layout work steps many numbers both out₀ laid₀ i₀ out laid i = many - i
+μ-loop layout work places out₀ laid₀ i₀ out laid i = places .many - i
 
 loop-holds : tie.Need-loop-holds Inv-loop μ-loop
-loop-holds c = steps-none _ _ _ _ _ _ _ _ _ (omega arith)
+loop-holds c = steps-none _ _ _ _ _ _ (omega arith)
 
 mul-put-step : tie.Need-mul-put-step Inv-loop μ-loop
 mul-put-step c = omega arith
@@ -26,8 +26,9 @@ add-put-step c = omega arith
 
 put-step-requires : tie.Need-put-step-requires Inv-loop μ-loop
 put-step-requires c κs =
-    let r = c .before .before .before .before .before .pre .1 .1 in
-    (c .before .before .before .before .before .pre .0, (omega (arith, c .before .before .before .before .before .pre .1 .0, c .before .before .loop .inv .laid (r .thm) (r .labels) (r .ts) (r .says) .near), step-ready _ _ _ _ _ _ r (omega (arith, c .before .loop-test .taken))))
+    let pre = c .before .before .before .before .before .before .before .pre in
+    let r = pre .1 .1 in
+    (pre .0, (omega (arith, pre .1 .0, c .before .before .before .before .loop .inv .laid (r .thm) (r .labels) (r .ts) (r .says) .near), step-ready _ _ _ _ _ _ r (omega (arith, c .before .before .if1 .taken))))
 
 add-i : tie.Need-add-i Inv-loop μ-loop
 add-i c = omega arith
@@ -36,13 +37,13 @@ loop-less : tie.Need-loop-less Inv-loop μ-loop
 loop-less c = omega arith
 
 loop-again : tie.Need-loop-again Inv-loop μ-loop
-loop-again c = steps-more _ _ _ _ _ _ (omega (arith, c .before .before .before .before .loop-test .taken)) (omega arith) (c .before .before .before .before .before .loop .inv) (c .before .before .put-step .ensures)
+loop-again c = steps-more _ _ _ (omega (arith, c .before .before .before .before .before .if1 .taken)) (omega arith) (c .before .before .before .before .before .before .before .loop .inv) (c .before .before .put-step .ensures)
 
 same-length : tie.Need-same-length Inv-loop μ-loop
-same-length c = let r = c .before .before .before .before .pre .1 .1 in lays-kept (c .before .loop .inv .laid (r .thm) (r .labels) (r .ts) (r .says))
+same-length c = let r = c .before .before .before .before .before .pre .1 .1 in lays-kept (c .before .before .loop .inv .laid (r .thm) (r .labels) (r .ts) (r .says))
 
 returns : tie.Need-returns Inv-loop μ-loop
-returns c = steps-all _ _ _ _ _ _ (omega (arith, c .loop-test .left)) (c .before .loop .inv)
+returns c = steps-all _ _ _ (omega (arith, c .if1 .left)) (c .before .before .loop .inv)
 
 pub put-steps-spec : {M : Type 1} → statement M
 put-steps-spec =
