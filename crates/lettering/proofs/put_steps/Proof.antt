@@ -1,11 +1,10 @@
+-- `put_steps` meets its contract. The letters of the first i steps stand at the front, whatever list of steps the words say.
+-- The measure is how many steps are left.
 use Prim.Native.Nat.{_-_}
 use native.Mathlib.Omega.{arith}
 use Rattle.lettering.proofs.Lemmas.{WroteTo, none-written, turn, all-written, step-ready}
 use Rattle.lettering.proofs.put_steps.Statement.{statement}
 use Rattle.lettering.proofs.put_steps.Tie as tie
-use Rattle.lettering.proofs.put_steps.Reads as reads
-use Rattle.lettering.proofs.put_steps.Lts as lts
-use Rattle.lettering.proofs.put_step.Reads as put-step-reads
 
 abbrev Inv-loop : tie.InvT-loop
 Inv-loop work steps many numbers both out₀ end₀ i₀ out end i = WroteTo steps many numbers both i end work out₀ out
@@ -13,39 +12,30 @@ Inv-loop work steps many numbers both out₀ end₀ i₀ out end i = WroteTo ste
 abbrev μ-loop : tie.MeasureT-loop
 μ-loop work steps many numbers both out₀ end₀ i₀ out end i = many - i
 
--- src/lib.rt:60:5
 loop-holds : tie.Need-loop-holds Inv-loop μ-loop
 loop-holds c = none-written _ _ _ _ _ _
 
--- src/lib.rt:61:38
 mul-put-step : tie.Need-mul-put-step Inv-loop μ-loop
 mul-put-step c = omega arith
 
--- src/lib.rt:61:30
 add-put-step : tie.Need-add-put-step Inv-loop μ-loop
 add-put-step c = omega arith
 
--- src/lib.rt:61:9
 put-step-requires : tie.Need-put-step-requires Inv-loop μ-loop
 put-step-requires c κs = (step-ready _ _ _ _ _ _ (c .before .before .before .before .before .pre) (c .before .loop-test .taken), omega (arith, c .before .before .loop .inv .near, c .before .before .before .before .before .pre .short))
 
--- src/lib.rt:62:9
 add-i : tie.Need-add-i Inv-loop μ-loop
 add-i c = omega arith
 
--- src/lib.rt:60:5
 loop-less : tie.Need-loop-less Inv-loop μ-loop
 loop-less c = omega arith
 
--- src/lib.rt:60:5
 loop-again : tie.Need-loop-again Inv-loop μ-loop
 loop-again c = turn _ _ _ _ _ _ _ _ _ _ _ (c .before .before .before .before .before .loop .inv) (c .before .before .before .before .loop-test .taken) (c .before .before .put-step .kept .1 .1 .1 .1 .1 .0) (c .before .before .put-step .ensures)
 
--- src/lib.rt:47:1
 same-length : tie.Need-same-length Inv-loop μ-loop
 same-length c = c .before .loop .inv .same-length
 
--- src/lib.rt:47:1
 returns : tie.Need-returns Inv-loop μ-loop
 returns c = all-written _ _ _ _ _ _ _ _ _ (omega arith) (c .before .loop .inv)
 
