@@ -12,7 +12,7 @@ use Rattle.defs.specs.Table.{labelIn}
 use Rattle.defs.specs.Steps.{Step}
 use Rattle.defs.specs.Letters.{lettersOf}
 use Rattle.defs.specs.Layout.{Layout, Line, begin, putWord, putWords}
-use Rattle.defs.specs.Text.{endWord, close}
+use Rattle.defs.specs.Text.{endWord, close, compressedIn}
 use Rattle.layout.specs.declared.lines.Line.{Line as End}
 use Rattle.layout.specs.Laid.{Wrote, Lays}
 use Rattle.layout.specs.Streams.{streamed}
@@ -22,7 +22,7 @@ use Rattle.layout.proofs.Wrote.{wrote-all}
 use Rattle.layout.proofs.Cutting.{letters-streamed}
 use Rattle.compressed.specs.declared.places.Places.{Places}
 use Rattle.compressed.specs.Stepped.{SaysAt, StepsLaid}
-use Rattle.compressed.specs.Texts.{compressedIn, TextWrote}
+use Rattle.compressed.specs.Texts.{TextWrote}
 
 -- after a word of one byte the position is at most the width
 one-inside : (l : Layout) (s : Line) (x : ℕ) → Bounds l → putWord l s (x ∷ []) .at ≤ l .width

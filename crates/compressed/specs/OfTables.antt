@@ -20,17 +20,12 @@ use Rattle.defs.specs.LineLaws.{LinesFit, lines-fit}
 use Rattle.lettering.specs.Said.{ListReady}
 use Rattle.compressed.specs.declared.places.Places.{Places}
 use Rattle.compressed.specs.Stepped.{SaysAt}
-use Rattle.compressed.specs.Texts.{compressedIn, TextReady, TextWrote}
-
--- over a table's statement section the text is the table's
-pub text-of-table : (w b : List ℕ) (l : Layout) (order letters : List ℕ) → compressedIn (statementWords w) b l order letters ≡ compressedText w b l order letters
-unfolding compressedIn compressedText
-text-of-table w b l order letters = refl
+use Rattle.compressed.specs.Texts.{TextReady, TextWrote}
 
 -- with the table's own label list and packed list it is the table's text in style 0
-pub text-of-style : (w b : List ℕ) (l : Layout) → compressedIn (statementWords w) b l (labelsOf w l) (lettersOf (mandatory w) (labelsOf w l) (packedOf w false)) ≡ textOf w b 0 l
+pub text-of-style : (w b : List ℕ) (l : Layout) → compressedText w b l (labelsOf w l) (lettersOf (mandatory w) (labelsOf w l) (packedOf w false)) ≡ textOf w b 0 l
 unfolding textOf lettersFor
-text-of-style w b l = text-of-table w b l (labelsOf w l) (lettersFor w l)
+text-of-style w b l = refl
 
 -- a label list of statements, and steps whose letters can be written
 pub text-ready : (w b : List ℕ) → tableRefusal w b ≡ 0 → (p : Places) (ws order : List ℕ) → part (p .list) (p .listed) ws ≡ order → p .list + p .listed ≤ length ws

@@ -1,27 +1,18 @@
--- The compressed text over a statement section, what writing it asks for, and what is then written.
+-- What writing a compressed text asks for, and what is then written.
 use mathlib.Core.Path.{_≡_}
 use Prim.Native.Nat.{ℕ, _≤_}
-use mathlib.Core.List.{List, [], _∷_, map}
+use mathlib.Core.List.{List}
 use lib.ListN.{length}
 use Rattle.laws.specs.Tools.{part, over}
-use Rattle.defs.specs.Bytes.{openParen, closeParen}
-use Rattle.defs.specs.Table.{maxWord, labelIn}
+use Rattle.defs.specs.Table.{maxWord}
 use Rattle.defs.specs.Steps.{Step}
 use Rattle.defs.specs.Letters.{lettersOf}
-use Rattle.defs.specs.Layout.{Layout, Line, begin, putWord, putWords, putLetters}
-use Rattle.defs.specs.Text.{close}
+use Rattle.defs.specs.Layout.{Layout}
+use Rattle.defs.specs.Text.{compressedIn}
 use Rattle.lettering.specs.Said.{ListReady}
 use Rattle.compressed.specs.declared.places.Places.{Places}
 use Rattle.compressed.specs.Listed.{LabelsReady}
 use Rattle.compressed.specs.Stepped.{SaysAt}
-
--- style 0: `(`, labels, `)`, then letters cut
-unfoldable pub compressedIn : (ss b : List ℕ) → Layout → (order letters : List ℕ) → List ℕ
-compressedIn ss b l order letters =
-    let open-paren : Line = putWord l (begin l) (openParen ∷ []) in
-    let labels : Line = putWords l open-paren (map (labelIn ss b) order) in
-    let close-paren : Line = putWord l labels (closeParen ∷ []) in
-    close l (putLetters l close-paren letters)
 
 -- the label list and the steps stand in the words, and neither is so long that an end could wrap
 pub record TextReady (ss b : List ℕ) (p : Places) (ws : List ℕ) : Type 0 where

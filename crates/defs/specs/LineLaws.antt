@@ -15,7 +15,7 @@ use Rattle.laws.specs.Tools.{pick, all, allOf}
 use Rattle.defs.specs.Table.{statements, labelLength, label}
 use Rattle.defs.specs.Check.{tableRefusal, labelByte}
 use Rattle.defs.specs.Layout.{Layout, layoutRules, bad8, Line, spaces, begin, putWord, putWords, roomAt, cutWithin, putLetters, widest}
-use Rattle.defs.specs.Text.{endWord, close, labelsOf, lettersFor, compressedText, textOf}
+use Rattle.defs.specs.Text.{endWord, close, labelsOf, lettersFor, compressedIn, textOf}
 use Rattle.defs.specs.Refusals.{bad12}
 use Rattle.laws.specs.Lists.{all-take, all-drop, all-image, boole, T-of, clash, passed, All, all-map, eqb-no, eqb-yes, leb-yes, leb-no}
 use Rattle.defs.specs.Checked.{statement-ok}
@@ -214,7 +214,7 @@ labels-fit w b l ok narrow ok12 =
     (labelsOf w l) (labels-listed w b l ok ok12))
 
 pub lines-fit : LinesFit
-unfolding LinesFit bad8 layoutRules textOf compressedText close lettersFor putLetters
+unfolding LinesFit bad8 layoutRules textOf compressedIn close lettersFor putLetters
 lines-fit w b l ok ok8 ok12 =
     let p = each (layoutRules l) (passed (allOf (layoutRules l)) ok8) in
     let narrow : l .indent + 2 ≤ l .width = leb→le _ _ (p .1 .1 .0) in

@@ -10,7 +10,7 @@ use Rattle.defs.specs.Names.{digitsWithin, digits, isLabelIn, isFreeIn, 
 use Rattle.defs.specs.Letters.{leading, code, stepNumber, stepLetters, lettersOf}
 use Rattle.defs.specs.Order.{used, listed, costOf, useOf, byUse, byIndex, cutoffs, startAt, blocksFrom, floatings, blocks, best, restReaches, choose, chosen, emit, fillWithin, fillBlock, fillBlocks, labelList}
 use Rattle.defs.specs.Layout.{standard, layoutRules, bad8, lineRoom, begin, putWord, putWords, roomAt, cutWithin, putLetters, widest}
-use Rattle.defs.specs.Text.{packedOf, normalOf, hypPrefix, stepWord, close, stepsText, labelsOf, lettersFor, compressedText, textOf}
+use Rattle.defs.specs.Text.{packedOf, normalOf, hypPrefix, stepWord, close, stepsText, labelsOf, lettersFor, compressedIn, textOf}
 use Rattle.defs.specs.Refusals.{mixed, bad10, bad11, bad12, bad13, need32, need16}
 use Rattle.defs.specs.Outcome.{lengthAfter, outAfter, isEarly, workAfter, oneOutput, twoOutputs, checkOutcome, countsNumber, parentsOutcome, distancesOutcome, stepListWords, stepListNumber, stepListOutcome, compressedTests, lettersNumber, lettersOutcome, textNumber, textOutcome}
 use Rattle.defs.specs.Replay.{stepsIn, fresh, stepRules, malformed, stackShort, popped, left, lookup, noRoom, normalStep, referStep, nameTop, afterStep, andThen, oneStep, allSteps, replayed, replayFirst, unchanged, settled, replayOutcome}
@@ -57,7 +57,7 @@ unfolding standard layoutRules bad8 lineRoom begin putWord putWords roomAt cutWi
 opened-layout = 0
 
 unfoldable pub opened-text : ℕ
-unfolding packedOf normalOf hypPrefix stepWord close stepsText labelsOf lettersFor compressedText textOf
+unfolding packedOf normalOf hypPrefix stepWord close stepsText labelsOf lettersFor compressedIn textOf
 opened-text = 0
 
 unfoldable pub opened-refusals : ℕ

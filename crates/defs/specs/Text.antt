@@ -6,7 +6,7 @@ use lib.ListN.{getD}
 use lib.Dec.{eqb, ltb}
 use Rattle.laws.specs.Tools.{pick}
 use Rattle.defs.specs.Bytes.{dollar, dot, openParen, closeParen, colon, equalsSign}
-use Rattle.defs.specs.Table.{entries, theorem, qed, label, hyps, mandatory}
+use Rattle.defs.specs.Table.{entries, theorem, qed, statementWords, labelIn, label, hyps, mandatory}
 use Rattle.defs.specs.Graph.{graphOf}
 use Rattle.defs.specs.Steps.{Step, isNormal, packedSteps, normalSteps}
 use Rattle.defs.specs.Names.{name}
@@ -66,13 +66,16 @@ labelsOf w l = labelList w (lineRoom l) (packedOf w false)
 unfoldable pub lettersFor : List ℕ → Layout → List ℕ
 lettersFor w l = lettersOf (mandatory w) (labelsOf w l) (packedOf w false)
 
--- style 0: `(`, labels, `)`, then letters cut
-unfoldable pub compressedText : (w b : List ℕ) → Layout → (order letters : List ℕ) → List ℕ
-compressedText w b l order letters =
+-- style 0: `(`, labels, `)`, then letters cut; over a statement section with its label bytes, and of a table
+unfoldable pub compressedIn : (ss b : List ℕ) → Layout → (order letters : List ℕ) → List ℕ
+compressedIn ss b l order letters =
     let open-paren : Line = putWord l (begin l) (openParen ∷ []) in
-    let labels : Line = putWords l open-paren (map (label w b) order) in
+    let labels : Line = putWords l open-paren (map (labelIn ss b) order) in
     let close-paren : Line = putWord l labels (closeParen ∷ []) in
     close l (putLetters l close-paren letters)
+
+abbrev pub compressedText : (w b : List ℕ) → Layout → (order letters : List ℕ) → List ℕ
+compressedText w = compressedIn (statementWords w)
 
 -- the text of a table in a style
 unfoldable pub textOf : (w b : List ℕ) (style : ℕ) → Layout → List ℕ
