@@ -43,15 +43,15 @@ module _ (l : Layout) (ss b : List ℕ) (p : Places) (ws : List ℕ) (bounds : B
   unfolding compressedIn close
   text-is order letters = ap (λ (s : Line). putWord l s endWord .text) (sym (letters-streamed l _ letters bounds (one-inside l _ closeParen bounds)))
 
-  pub text-wrote : {begun opened listed closed started lettered ended : End} {o o1 o2 o3 o4 o5 o6 o7 left right : List ℕ} {m1 m2 m3 m4 m5 r : ℕ}
+  pub text-wrote : {begun opened listed closed started lettered ended : End} {o o1 o2 o3 o4 o5 o6 o7 : List ℕ} {m1 m2 m3 m4 m5 left right r : ℕ}
       → Wrote (begin l) begun o o1
-      → Lays (λ s. putWord l s left) m1 begun opened o1 o2
+      → Lays (λ s. putWord l s (left ∷ [])) m1 begun opened o1 o2
       → Lays (λ s. putWords l s (map (labelIn ss b) (part (p .list) (p .listed) ws))) m2 opened listed o2 o3
-      → Lays (λ s. putWord l s right) m3 listed closed o3 o4
+      → Lays (λ s. putWord l s (right ∷ [])) m3 listed closed o3 o4
       → Lays (λ s. putWord l s []) m4 closed started o4 o5
       → StepsLaid l p started lettered ws o5 o6
       → Lays (λ s. putWord l s endWord) m5 lettered ended o6 o7
-      → left ≡ openParen ∷ [] → right ≡ closeParen ∷ [] → r ≡ ended .end
+      → left ≡ openParen → right ≡ closeParen → r ≡ ended .end
       → TextWrote l ss b p r ws o o7
   text-wrote {ended = ended} {o = o} {o7 = o7} begun opened listed closed started lettered ended-is open-is close-is r-is =
       let wrote : (thm order : List ℕ) (ts : List Step) → part (p .list) (p .listed) ws ≡ order → SaysAt p ws thm order ts

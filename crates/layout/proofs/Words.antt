@@ -10,7 +10,7 @@ use borrow.Author.Tests.{lt-ltb, le-ltb}
 use lib.ListN.{length, getD, take, length-replicate}
 use lib.Seq.{append-snoc, take-suc}
 use Rattle.laws.specs.Puts.{Put}
-use Rattle.defs.specs.Bytes.{space, newline}
+use Rattle.defs.specs.Bytes.{space, newline, dollar, dot}
 use Rattle.defs.specs.Layout.{Layout, Line, spaces, begin, putWord, putWords}
 use Rattle.defs.specs.Text.{endWord, close}
 use Rattle.layout.specs.declared.lines.Line.{Line as End}
@@ -87,11 +87,12 @@ lays-word l {k} {word = word} e a g =
       near = omega (arith, a .near, g .ends);
     }
 
--- a word, named
-pub lays-named : (l : Layout) (name : List ℕ) {word : List ℕ} {line next : End} {before after : List ℕ}
-    → Lays (λ s. putWord l s word) (mostBefore + length word) line next before after → word ≡ name
-    → Lays (λ s. putWord l s name) (mostBefore + length name) line next before after
-lays-named l name laid e = rw e at laid
+-- the last word: its two bytes, and no more
+pub lays-end : (l : Layout) (rest : List ℕ) {x y : ℕ} {line next : End} {before after : List ℕ}
+    → Lays (λ s. putWord l s (x ∷ y ∷ rest)) (mostBefore + length (x ∷ y ∷ rest)) line next before after → x ≡ dollar → y ≡ dot → length rest ≡ 0
+    → Lays (λ s. putWord l s endWord) (mostBefore + length endWord) line next before after
+lays-end l [] laid first second none = rw (first, second) at laid
+lays-end l (z ∷ rest) laid first second none = absurd (omega arith)
 
 -- the text with the last word
 pub closed : (l : Layout) (s : Line) → close l s ≡ putWord l s endWord .text

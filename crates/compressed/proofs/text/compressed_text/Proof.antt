@@ -1,6 +1,6 @@
 -- `compressed_text` meets its contract: each writer begins where the one before it ended.
 -- The counts of labels and steps keep every end below the farthest place.
-use mathlib.Core.Path.{refl, _∙_}
+use mathlib.Core.Path.{_∙_}
 use native.Mathlib.Omega.{arith}
 use borrow.Author.Needs.{needs}
 use Rattle.layout.proofs.Within.{bounds}
@@ -64,8 +64,8 @@ returns c =
     (c .before .before .before .before .before .before .before .before .before .before .open-letters .ensures)
     (c .before .before .before .before .before .before .put-steps .ensures)
     (c .before .before .close .ensures)
-    refl
-    refl
+    (omega arith)
+    (omega arith)
     (omega arith)
 
 pub compressed-text-spec : {M : Type 1} → statement M
