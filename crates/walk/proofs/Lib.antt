@@ -1,5 +1,5 @@
 -- What the proofs of several functions use.
-mod StepLaws
+pub mod StepLaws
 mod PackedLaws
 mod NormalLaws
 mod MarkLaws
