@@ -16,7 +16,10 @@ impl Span {
     pub fn none() -> Self
         ensures { λ r. ⌜ r ≡ noSpan ⌝ }
     {
-        Self { start: 0, length: 0 }
+        Self {
+            start: 0,
+            length: 0,
+        }
     }
 }
 

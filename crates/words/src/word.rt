@@ -75,13 +75,7 @@ fn put_bytes(labels: &[u8], word: Word, at: usize, out: &mut [u8]) -> usize
 }
 
 // A word laid on a line: its length says what stands before it.
-pub fn put_step_word(
-    layout: Layout,
-    line: Line,
-    labels: &[u8],
-    word: Word,
-    out: &mut [u8],
-) -> Line
+pub fn put_step_word(layout: Layout, line: Line, labels: &[u8], word: Word, out: &mut [u8]) -> Line
     requires { ⌜ bad8 (layoutOf layout) ≡ false ⌝ }
     requires { ⌜ WordInside (now labels) word ⌝ }
     requires { ⌜ line .end + mostLaid < farthest ⌝ }
