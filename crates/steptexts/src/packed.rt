@@ -63,7 +63,16 @@ fn packed_word(
     let mark = name_number(work, names, work[at + 1]);
     let statement = StatementNo(work[at + 2]);
     let hyp = hyp_of(work[at + 3], work[at + 4]);
-    step_word(statements, hyps, theorem, explicit, mark, reference, statement, hyp)
+    step_word(
+        statements,
+        hyps,
+        theorem,
+        explicit,
+        mark,
+        reference,
+        statement,
+        hyp,
+    )
 }
 
 // The text of the packed list, `many` steps from `steps` on; where it ends.
