@@ -49,7 +49,7 @@ start line out stack depth s = record { done = []; laid = none-laid line out; re
 
 -- ---- a table that is not refused
 
-module _ {w b : List ℕ} {l : Layout} {room : ℕ} (r : NormalReady w b l room) where
+module _ {w b : List ℕ} {room : ℕ} (r : NormalReady w b room) where
   -- what the walk asks for
   pub may-walk : {es cs : List ℕ} (q : ℕ) → es ≡ entryWords w → cs ≡ childWords w → q ≡ qed w → Entries es cs × ((q < size es) × (pairSize * size es ≤ room))
   may-walk q es-is cs-is q-is =
@@ -68,7 +68,7 @@ module _ {w b : List ℕ} {l : Layout} {room : ℕ} (r : NormalReady w b l room)
     all-sound : All (StepSound w 0) (left es cs explicit stack₀ 1)
     all-sound = rw all-are (normal-sound w b (r .ok) explicit)
 
-    module _ {ss hs : List ℕ} {thm : ℕ} (lent : Lent w ss hs thm) {first line : End} {before between stack : List ℕ} {depth : ℕ}
+    module _ {ss hs : List ℕ} {thm : ℕ} (lent : Lent w ss hs thm) {l : Layout} {first line : End} {before between stack : List ℕ} {depth : ℕ}
         (k : Walked ss hs b thm explicit l es cs first line before between stack₀ 1 stack depth) where
       done-few : length (k .done) ≤ maxNormalSteps
       done-few = omega (arith, few explicit, ap length (sym all-are ∙ k .rest), length-append (k .done) (left es cs explicit stack depth))

@@ -27,7 +27,7 @@ use Rattle.steptexts.specs.Texts.{numberAt, stepAt, wordFor, WordReady, 
 use Rattle.steptexts.proofs.Held.{stepsIn, none-in, one-in, length-in, step-is, all-are}
 use Rattle.steptexts.proofs.Laying.{Laid, Lent, wordIn, none-laid, one-laid, laid-near, all-printed}
 
-module _ {w b : List ℕ} {l : Layout} {explicit : Bool} {steps many names : ℕ} {ws : List ℕ} (r : PackedReady w b l explicit steps many names ws) where
+module _ {w b : List ℕ} {explicit : Bool} {steps many names : ℕ} {ws : List ℕ} (r : PackedReady w b explicit steps many names ws) where
   few : many ≤ maxChildRefs + 1
   few = omega (arith, r .as-many, packed-most w b (r .ok) explicit, header w (good w b (r .ok) .ok1) .c-most)
 
@@ -65,7 +65,7 @@ module _ {w b : List ℕ} {l : Layout} {explicit : Bool} {steps many names : ℕ
         rw (lent .statements-are, lent .hyps-are, lent .theorem-is) (word-inside w b (r .ok) _ (entries w) (step-sound i h) explicit _ _)
 
     -- the words of the first i steps are laid
-    module _ (i : ℕ) {first line : End} {before between : List ℕ} (laid : Laid ss hs b thm explicit (numberAt ws names) l (stepsIn ws steps i) first line before between) where
+    module _ {l : Layout} (i : ℕ) {first line : End} {before between : List ℕ} (laid : Laid ss hs b thm explicit (numberAt ws names) l (stepsIn ws steps i) first line before between) where
       pub near : i ≤ many → first .end < mostBefore → line .end + mostLaid < farthest
       near h k = omega (arith, few, laid-near laid, length-in ws steps i)
 
@@ -82,5 +82,5 @@ module _ {w b : List ℕ} {l : Layout} {explicit : Bool} {steps many names : ℕ
           all-printed w b (r .ok) explicit (numberAt ws names) (entries w) names-are l lent (packedOf w explicit) (packed-sound w b (r .ok) explicit) begun (rw ts at laid) ended
 
   -- none yet
-  pub start : {ss hs : List ℕ} {thm : ℕ} (line : End) (out : List ℕ) → Laid ss hs b thm explicit (numberAt ws names) l (stepsIn ws steps 0) line line out out
+  pub start : {ss hs : List ℕ} {thm : ℕ} {l : Layout} (line : End) (out : List ℕ) → Laid ss hs b thm explicit (numberAt ws names) l (stepsIn ws steps 0) line line out out
   start line out = rw (none-in ws steps) (none-laid line out)

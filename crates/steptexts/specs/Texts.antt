@@ -8,7 +8,6 @@ use lib.Dec.{eqb}
 use Rattle.laws.specs.Tools.{pick, part, over}
 use Rattle.defs.specs.Table.{word, entries}
 use Rattle.defs.specs.Check.{tableRefusal}
-use Rattle.defs.specs.Layout.{Layout, bad8}
 use Rattle.defs.specs.Names.{nameNumber}
 use Rattle.defs.specs.Steps.{Step, stepSize, flat}
 use Rattle.defs.specs.Text.{packedOf}
@@ -50,9 +49,8 @@ pub record Printed (text : List ℕ) (end : ℕ) (before after : List ℕ) : Typ
   pub fits : length text ≤ length before → after ≡ over text before
 
 -- the packed list of a table stands in the words, `many` steps from `steps` on, and so do the names of as many marks as the table has entries
-pub record PackedReady (w b : List ℕ) (l : Layout) (explicit : Bool) (steps many names : ℕ) (ws : List ℕ) : Type 0 where
+pub record PackedReady (w b : List ℕ) (explicit : Bool) (steps many names : ℕ) (ws : List ℕ) : Type 0 where
   pub ok : tableRefusal w b ≡ 0
-  pub within : bad8 l ≡ false
   pub as-many : many ≡ length (packedOf w explicit)
   pub inside : steps + stepSize * many ≤ length ws
   pub holds : part steps (stepSize * many) ws ≡ flat (packedOf w explicit)
@@ -60,8 +58,7 @@ pub record PackedReady (w b : List ℕ) (l : Layout) (explicit : Bool) (steps ma
   pub named : (m : ℕ) → 0 < m → m ≤ entries w → word ws (names + m) ≡ nameNumber w b m
 
 -- the normal list of a table is not refused, and its walk has room for its stack
-pub record NormalReady (w b : List ℕ) (l : Layout) (room : ℕ) : Type 0 where
+pub record NormalReady (w b : List ℕ) (room : ℕ) : Type 0 where
   pub ok : tableRefusal w b ≡ 0
-  pub within : bad8 l ≡ false
   pub few : bad13 w ≡ false
   pub stack-in : pairSize * entries w ≤ room

@@ -11,7 +11,10 @@ use walk::normal::begin;
 use walk::normal::next;
 use words::word::put_step_word;
 use words::word::step_word;
+ghost use mathlib.Core.Path.{_≡_};
+ghost use mathlib.Core.Bool.{false};
 ghost use lib.ListN.{length};
+ghost use Rattle.defs.specs.Layout.{bad8};
 ghost use Rattle.defs.specs.Text.{normalOf, stepsText};
 ghost use Rattle.layout.specs.Layouts.{layoutOf};
 ghost use Rattle.steptexts.specs.Texts.{Printed, NormalReady};
@@ -25,7 +28,8 @@ pub fn normal_text(
     stack: &mut [u32],
     out: &mut [u8],
 ) -> usize
-    requires { ⌜ NormalReady (now words) (now labels) (layoutOf layout) (length (now stack)) ⌝ }
+    requires { ⌜ bad8 (layoutOf layout) ≡ false ⌝ }
+    requires { ⌜ NormalReady (now words) (now labels) (length (now stack)) ⌝ }
     ensures { λ r. ⌜ Printed (stepsText (now (words .entry)) (now (labels .entry)) (layoutOf layout) explicit (normalOf (now (words .entry)) explicit)) r
         (now (out .entry)) (now (out .exit)) ⌝ }
 {

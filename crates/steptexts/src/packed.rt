@@ -13,8 +13,10 @@ use words::Word;
 use words::word::put_step_word;
 use words::word::step_word;
 ghost use mathlib.Core.Path.{_≡_};
+ghost use mathlib.Core.Bool.{false};
 ghost use Prim.Native.Nat.{_+_, _<_};
 ghost use lib.ListN.{length};
+ghost use Rattle.defs.specs.Layout.{bad8};
 ghost use Rattle.defs.specs.Text.{packedOf, stepsText};
 ghost use Rattle.layout.specs.Layouts.{layoutOf};
 ghost use Rattle.walk.specs.Hyps.{parentOf, indexOf};
@@ -87,7 +89,8 @@ pub fn packed_text(
     names: usize,
     out: &mut [u8],
 ) -> usize
-    requires { ⌜ PackedReady (now words) (now labels) (layoutOf layout) explicit steps many names (now work) ⌝ }
+    requires { ⌜ bad8 (layoutOf layout) ≡ false ⌝ }
+    requires { ⌜ PackedReady (now words) (now labels) explicit steps many names (now work) ⌝ }
     ensures { λ r. ⌜ Printed (stepsText (now (words .entry)) (now (labels .entry)) (layoutOf layout) explicit (packedOf (now (words .entry)) explicit)) r
         (now (out .entry)) (now (out .exit)) ⌝ }
 {

@@ -47,31 +47,31 @@ stepped c = came-step _ _ _ _ _ _ _ _ _ (c .before .before .before .before .befo
 
 -- src/normal.rt:32:9
 read-header-requires : tie.Need-read-header-requires Inv-loop μ-loop
-read-header-requires c κs = header-ok _ _ (c .before .before .before .before .pre .ok) .ten
+read-header-requires c κs = header-ok _ _ (c .before .before .before .before .pre .1 .ok) .ten
 
 -- src/normal.rt:33:9
 statement-section-requires : tie.Need-statement-section-requires Inv-loop μ-loop
-statement-section-requires c κs = header-ok _ _ (c .before .before .before .before .before .pre .ok)
+statement-section-requires c κs = header-ok _ _ (c .before .before .before .before .before .pre .1 .ok)
 
 -- src/normal.rt:34:9
 hyp-section-requires : tie.Need-hyp-section-requires Inv-loop μ-loop
-hyp-section-requires c κs = header-ok _ _ (c .before .before .before .before .before .before .pre .ok)
+hyp-section-requires c κs = header-ok _ _ (c .before .before .before .before .before .before .pre .1 .ok)
 
 -- src/normal.rt:35:9
 entry-section-requires : tie.Need-entry-section-requires Inv-loop μ-loop
-entry-section-requires c κs = header-ok _ _ (c .before .before .before .before .before .before .before .pre .ok)
+entry-section-requires c κs = header-ok _ _ (c .before .before .before .before .before .before .before .pre .1 .ok)
 
 -- src/normal.rt:36:9
 child-section-requires : tie.Need-child-section-requires Inv-loop μ-loop
-child-section-requires c κs = header-ok _ _ (c .before .before .before .before .before .before .before .before .pre .ok)
+child-section-requires c κs = header-ok _ _ (c .before .before .before .before .before .before .before .before .pre .1 .ok)
 
 -- src/normal.rt:37:5
 begin-requires : tie.Need-begin-requires Inv-loop μ-loop
-begin-requires c κs = may-walk (c .before .before .before .before .before .before .before .before .before .before .pre) _ (c .before .before .entry-section .ensures) (c .before .child-section .ensures) (c .before .before .before .before .before .read-header .ensures .qed-is)
+begin-requires c κs = may-walk (c .before .before .before .before .before .before .before .before .before .before .pre .1) _ (c .before .before .entry-section .ensures) (c .before .child-section .ensures) (c .before .before .before .before .before .read-header .ensures .qed-is)
 
 -- src/normal.rt:38:9
 begin-requires-2 : tie.Need-begin-requires-2 Inv-loop μ-loop
-begin-requires-2 c κs = c .before .before .before .before .before .before .before .before .before .before .before .before .before .before .pre .within
+begin-requires-2 c κs = c .before .before .before .before .before .before .before .before .before .before .before .before .before .before .pre .0
 
 -- src/normal.rt:40:5
 loop-holds : tie.Need-loop-holds Inv-loop μ-loop
@@ -79,7 +79,7 @@ loop-holds c = (start _ _ _ _ (c .before .before .before .before .before .before
 
 -- src/normal.rt:41:13
 next-requires : tie.Need-next-requires Inv-loop μ-loop
-next-requires c κs = (may-walk (c .before .before .before .before .before .before .before .before .before .before .before .before .before .before .before .before .before .before .before .pre) _ (c .before .before .before .before .before .before .before .before .before .before .before .entry-section .ensures) (c .before .before .before .before .before .before .before .before .before .before .child-section .ensures) (c .before .before .before .before .before .before .before .before .before .before .before .before .before .before .read-header .ensures .qed-is) .0, c .before .loop .inv .0 .stacked)
+next-requires c κs = (may-walk (c .before .before .before .before .before .before .before .before .before .before .before .before .before .before .before .before .before .before .before .pre .1) _ (c .before .before .before .before .before .before .before .before .before .before .before .entry-section .ensures) (c .before .before .before .before .before .before .before .before .before .before .child-section .ensures) (c .before .before .before .before .before .before .before .before .before .before .before .before .before .before .read-header .ensures .qed-is) .0, c .before .loop .inv .0 .stacked)
 
 -- src/normal.rt:43:13
 enum-known-taken : tie.Need-enum-known-taken Inv-loop μ-loop
@@ -91,7 +91,7 @@ enum-told c = c .match .keys2
 
 -- src/normal.rt:48:17
 close-requires : tie.Need-close-requires Inv-loop μ-loop
-close-requires c κs = (c .before .before .before .before .before .before .before .before .before .before .before .before .before .before .before .before .before .before .before .before .before .before .before .before .before .pre .within, omega (arith, near (c .before .before .before .before .before .before .before .before .before .before .before .before .before .before .before .before .before .before .before .before .before .before .before .before .before .pre) (c .before .before .before .before .before .before .before .before .before .before .before .before .before .before .before .before .before .entry-section .ensures) (c .before .before .before .before .before .before .before .before .before .before .before .before .before .before .before .before .child-section .ensures) (c .before .before .before .before .before .before .before .before .before .before .before .before .before .before .before .before .before .before .before .before .read-header .ensures .qed-is) (c .before .before .before .before .before .before .before .before .before .before .before .before .before .before .begin .ensures) _ (lent (c .before .before .before .before .before .before .before)) (c .before .before .before .before .before .before .before .loop .inv .0) (c .before .before .before .before .before .before .before .before .before .before .begin2 .ensures .1)))
+close-requires c κs = (c .before .before .before .before .before .before .before .before .before .before .before .before .before .before .before .before .before .before .before .before .before .before .before .before .before .pre .0, omega (arith, near (c .before .before .before .before .before .before .before .before .before .before .before .before .before .before .before .before .before .before .before .before .before .before .before .before .before .pre .1) (c .before .before .before .before .before .before .before .before .before .before .before .before .before .before .before .before .before .entry-section .ensures) (c .before .before .before .before .before .before .before .before .before .before .before .before .before .before .before .before .child-section .ensures) (c .before .before .before .before .before .before .before .before .before .before .before .before .before .before .before .before .before .before .before .before .read-header .ensures .qed-is) (c .before .before .before .before .before .before .before .before .before .before .before .before .before .before .begin .ensures) _ (lent (c .before .before .before .before .before .before .before)) (c .before .before .before .before .before .before .before .loop .inv .0) (c .before .before .before .before .before .before .before .before .before .before .begin2 .ensures .1)))
 
 -- src/normal.rt:49:13
 same-length : tie.Need-same-length Inv-loop μ-loop
@@ -103,30 +103,30 @@ same-length-2 c = c .before .before .close .kept .1 .1 .0 ∙ laid-kept (c .befo
 
 -- src/normal.rt:49:13
 returns : tie.Need-returns Inv-loop μ-loop
-returns c = printed (c .before .before .before .before .before .before .before .before .before .before .before .before .before .before .before .before .before .before .before .before .before .before .before .before .before .before .before .before .pre) (c .before .before .before .before .before .before .before .before .before .before .before .before .before .before .before .before .before .before .before .before .entry-section .ensures) (c .before .before .before .before .before .before .before .before .before .before .before .before .before .before .before .before .before .before .before .child-section .ensures) (c .before .before .before .before .before .before .before .before .before .before .before .before .before .before .before .before .before .before .before .before .before .before .before .read-header .ensures .qed-is) (c .before .before .before .before .before .before .before .before .before .before .before .before .before .before .before .before .before .begin .ensures) _ (lent (c .before .before .before .before .before .before .before .before .before .before)) (c .before .before .before .before .before .before .before .before .before .before .loop .inv .0) (came-end _ _ _ _ _ _ (c .before .before .before .before .before .before .before .before .next .ensures) (c .before .before .before .before .enum-told .given .1)) (c .before .before .before .before .before .before .before .before .before .before .before .before .before .begin2 .ensures .0) (c .before .before .close .ensures)
+returns c = printed (c .before .before .before .before .before .before .before .before .before .before .before .before .before .before .before .before .before .before .before .before .before .before .before .before .before .before .before .before .pre .1) (c .before .before .before .before .before .before .before .before .before .before .before .before .before .before .before .before .before .before .before .before .entry-section .ensures) (c .before .before .before .before .before .before .before .before .before .before .before .before .before .before .before .before .before .before .before .child-section .ensures) (c .before .before .before .before .before .before .before .before .before .before .before .before .before .before .before .before .before .before .before .before .before .before .before .read-header .ensures .qed-is) (c .before .before .before .before .before .before .before .before .before .before .before .before .before .before .before .before .before .begin .ensures) _ (lent (c .before .before .before .before .before .before .before .before .before .before)) (c .before .before .before .before .before .before .before .before .before .before .loop .inv .0) (came-end _ _ _ _ _ _ (c .before .before .before .before .before .before .before .before .next .ensures) (c .before .before .before .before .enum-told .given .1)) (c .before .before .before .before .before .before .before .before .before .before .before .before .before .begin2 .ensures .0) (c .before .before .close .ensures)
 
 -- src/normal.rt:51:13
 step-word-requires : tie.Need-step-word-requires Inv-loop μ-loop
-step-word-requires c κs = word-ready (c .before .before .before .before .before .before .before .before .before .before .before .before .before .before .before .before .before .before .before .before .before .before .before .before .before .pre) (c .before .before .before .before .before .before .before .before .before .before .before .before .before .before .before .before .before .entry-section .ensures) (c .before .before .before .before .before .before .before .before .before .before .before .before .before .before .before .before .child-section .ensures) (c .before .before .before .before .before .before .before .before .before .before .before .before .before .before .before .before .before .before .before .before .read-header .ensures .qed-is) (c .before .before .before .before .before .before .before .before .before .before .before .before .before .before .begin .ensures) _ (lent (c .before .before .before .before .before .before .before)) (c .before .before .before .before .before .before .before .loop .inv .0) (stepped c)
+step-word-requires c κs = word-ready (c .before .before .before .before .before .before .before .before .before .before .before .before .before .before .before .before .before .before .before .before .before .before .before .before .before .pre .1) (c .before .before .before .before .before .before .before .before .before .before .before .before .before .before .before .before .before .entry-section .ensures) (c .before .before .before .before .before .before .before .before .before .before .before .before .before .before .before .before .child-section .ensures) (c .before .before .before .before .before .before .before .before .before .before .before .before .before .before .before .before .before .before .before .before .read-header .ensures .qed-is) (c .before .before .before .before .before .before .before .before .before .before .before .before .before .before .begin .ensures) _ (lent (c .before .before .before .before .before .before .before)) (c .before .before .before .before .before .before .before .loop .inv .0) (stepped c)
 
 -- src/normal.rt:61:9
 put-step-word-requires : tie.Need-put-step-word-requires Inv-loop μ-loop
 put-step-word-requires c κs = (
-  c .before .before .before .before .before .before .before .before .before .before .before .before .before .before .before .before .before .before .before .before .before .before .before .before .before .before .before .pre .within,
+  c .before .before .before .before .before .before .before .before .before .before .before .before .before .before .before .before .before .before .before .before .before .before .before .before .before .before .before .pre .0,
   (
-    rw (c .before .step-word .ensures) (word-in (c .before .before .before .before .before .before .before .before .before .before .before .before .before .before .before .before .before .before .before .before .before .before .before .before .before .before .before .pre) (c .before .before .before .before .before .before .before .before .before .before .before .before .before .before .before .before .before .before .before .entry-section .ensures) (c .before .before .before .before .before .before .before .before .before .before .before .before .before .before .before .before .before .before .child-section .ensures) (c .before .before .before .before .before .before .before .before .before .before .before .before .before .before .before .before .before .before .before .before .before .before .read-header .ensures .qed-is) (c .before .before .before .before .before .before .before .before .before .before .before .before .before .before .before .before .begin .ensures) _ (lent (c .before .before .before .before .before .before .before .before .before)) (c .before .before .before .before .before .before .before .before .before .loop .inv .0) (stepped (c .before .before))),
-    near (c .before .before .before .before .before .before .before .before .before .before .before .before .before .before .before .before .before .before .before .before .before .before .before .before .before .before .before .pre) (c .before .before .before .before .before .before .before .before .before .before .before .before .before .before .before .before .before .before .before .entry-section .ensures) (c .before .before .before .before .before .before .before .before .before .before .before .before .before .before .before .before .before .before .child-section .ensures) (c .before .before .before .before .before .before .before .before .before .before .before .before .before .before .before .before .before .before .before .before .before .before .read-header .ensures .qed-is) (c .before .before .before .before .before .before .before .before .before .before .before .before .before .before .before .before .begin .ensures) _ (lent (c .before .before .before .before .before .before .before .before .before)) (c .before .before .before .before .before .before .before .before .before .loop .inv .0) (c .before .before .before .before .before .before .before .before .before .before .before .before .begin2 .ensures .1),
+    rw (c .before .step-word .ensures) (word-in (c .before .before .before .before .before .before .before .before .before .before .before .before .before .before .before .before .before .before .before .before .before .before .before .before .before .before .before .pre .1) (c .before .before .before .before .before .before .before .before .before .before .before .before .before .before .before .before .before .before .before .entry-section .ensures) (c .before .before .before .before .before .before .before .before .before .before .before .before .before .before .before .before .before .before .child-section .ensures) (c .before .before .before .before .before .before .before .before .before .before .before .before .before .before .before .before .before .before .before .before .before .before .read-header .ensures .qed-is) (c .before .before .before .before .before .before .before .before .before .before .before .before .before .before .before .before .begin .ensures) _ (lent (c .before .before .before .before .before .before .before .before .before)) (c .before .before .before .before .before .before .before .before .before .loop .inv .0) (stepped (c .before .before))),
+    near (c .before .before .before .before .before .before .before .before .before .before .before .before .before .before .before .before .before .before .before .before .before .before .before .before .before .before .before .pre .1) (c .before .before .before .before .before .before .before .before .before .before .before .before .before .before .before .before .before .before .before .entry-section .ensures) (c .before .before .before .before .before .before .before .before .before .before .before .before .before .before .before .before .before .before .child-section .ensures) (c .before .before .before .before .before .before .before .before .before .before .before .before .before .before .before .before .before .before .before .before .before .before .read-header .ensures .qed-is) (c .before .before .before .before .before .before .before .before .before .before .before .before .before .before .before .before .begin .ensures) _ (lent (c .before .before .before .before .before .before .before .before .before)) (c .before .before .before .before .before .before .before .before .before .loop .inv .0) (c .before .before .before .before .before .before .before .before .before .before .before .before .begin2 .ensures .1),
   ),
 )
 
 -- src/normal.rt:40:5
 loop-less : tie.Need-loop-less Inv-loop μ-loop
-loop-less c = fewer (c .before .before .before .before .before .before .before .before .before .before .before .before .before .before .before .before .before .before .before .before .before .before .before .before .before .before .before .before .before .before .pre) (c .before .before .before .before .before .before .before .before .before .before .before .before .before .before .before .before .before .before .before .before .before .before .entry-section .ensures) (c .before .before .before .before .before .before .before .before .before .before .before .before .before .before .before .before .before .before .before .before .before .child-section .ensures) (c .before .before .before .before .before .before .before .before .before .before .before .before .before .before .before .before .before .before .before .before .before .before .before .before .before .read-header .ensures .qed-is) (c .before .before .before .before .before .before .before .before .before .before .before .before .before .before .before .before .before .before .before .begin .ensures) _ (lent (c .before .before .before .before .before .before .before .before .before .before .before .before)) (c .before .before .before .before .before .before .before .before .before .before .before .before .loop .inv .0) (stepped (c .before .before .before .before .before))
+loop-less c = fewer (c .before .before .before .before .before .before .before .before .before .before .before .before .before .before .before .before .before .before .before .before .before .before .before .before .before .before .before .before .before .before .pre .1) (c .before .before .before .before .before .before .before .before .before .before .before .before .before .before .before .before .before .before .before .before .before .before .entry-section .ensures) (c .before .before .before .before .before .before .before .before .before .before .before .before .before .before .before .before .before .before .before .before .before .child-section .ensures) (c .before .before .before .before .before .before .before .before .before .before .before .before .before .before .before .before .before .before .before .before .before .before .before .before .before .read-header .ensures .qed-is) (c .before .before .before .before .before .before .before .before .before .before .before .before .before .before .before .before .before .before .before .begin .ensures) _ (lent (c .before .before .before .before .before .before .before .before .before .before .before .before)) (c .before .before .before .before .before .before .before .before .before .before .before .before .loop .inv .0) (stepped (c .before .before .before .before .before))
 
 -- src/normal.rt:40:5
 loop-again : tie.Need-loop-again Inv-loop μ-loop
 loop-again c = (
-  turn (c .before .before .before .before .before .before .before .before .before .before .before .before .before .before .before .before .before .before .before .before .before .before .before .before .before .before .before .before .before .before .pre) (c .before .before .before .before .before .before .before .before .before .before .before .before .before .before .before .before .before .before .before .before .before .before .entry-section .ensures) (c .before .before .before .before .before .before .before .before .before .before .before .before .before .before .before .before .before .before .before .before .before .child-section .ensures) (c .before .before .before .before .before .before .before .before .before .before .before .before .before .before .before .before .before .before .before .before .before .before .before .before .before .read-header .ensures .qed-is) (c .before .before .before .before .before .before .before .before .before .before .before .before .before .before .before .before .before .before .before .begin .ensures) _ (lent (c .before .before .before .before .before .before .before .before .before .before .before .before)) (c .before .before .before .before .before .before .before .before .before .before .before .before .loop .inv .0) (stepped (c .before .before .before .before .before)) (rw (c .before .before .before .before .step-word .ensures) at (c .before .before .put-step-word .ensures)),
+  turn (c .before .before .before .before .before .before .before .before .before .before .before .before .before .before .before .before .before .before .before .before .before .before .before .before .before .before .before .before .before .before .pre .1) (c .before .before .before .before .before .before .before .before .before .before .before .before .before .before .before .before .before .before .before .before .before .before .entry-section .ensures) (c .before .before .before .before .before .before .before .before .before .before .before .before .before .before .before .before .before .before .before .before .before .child-section .ensures) (c .before .before .before .before .before .before .before .before .before .before .before .before .before .before .before .before .before .before .before .before .before .before .before .before .before .read-header .ensures .qed-is) (c .before .before .before .before .before .before .before .before .before .before .before .before .before .before .before .before .before .before .before .begin .ensures) _ (lent (c .before .before .before .before .before .before .before .before .before .before .before .before)) (c .before .before .before .before .before .before .before .before .before .before .before .before .loop .inv .0) (stepped (c .before .before .before .before .before)) (rw (c .before .before .before .before .step-word .ensures) at (c .before .before .put-step-word .ensures)),
   c .before .before .before .before .before .before .before .before .before .before .next .kept .1 .1 .0 ∙ c .before .before .before .before .before .before .before .before .before .before .before .before .loop .inv .1,
 )
 

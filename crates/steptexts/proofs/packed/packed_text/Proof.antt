@@ -37,39 +37,39 @@ lent p = record { statements-are = p .before .before .before .before .before .be
 
 -- src/packed.rt:85:9
 read-header-requires : tie.Need-read-header-requires Inv-loop μ-loop
-read-header-requires c κs = header-ok _ _ (c .before .before .before .before .pre .ok) .ten
+read-header-requires c κs = header-ok _ _ (c .before .before .before .before .pre .1 .ok) .ten
 
 -- src/packed.rt:86:9
 statement-section-requires : tie.Need-statement-section-requires Inv-loop μ-loop
-statement-section-requires c κs = header-ok _ _ (c .before .before .before .before .before .pre .ok)
+statement-section-requires c κs = header-ok _ _ (c .before .before .before .before .before .pre .1 .ok)
 
 -- src/packed.rt:87:9
 hyp-section-requires : tie.Need-hyp-section-requires Inv-loop μ-loop
-hyp-section-requires c κs = header-ok _ _ (c .before .before .before .before .before .before .pre .ok)
+hyp-section-requires c κs = header-ok _ _ (c .before .before .before .before .before .before .pre .1 .ok)
 
 -- src/packed.rt:88:9
 begin-requires : tie.Need-begin-requires Inv-loop μ-loop
-begin-requires c κs = c .before .before .before .before .before .before .before .before .pre .within
+begin-requires c κs = c .before .before .before .before .before .before .before .before .pre .0
 
 -- src/packed.rt:90:5
 loop-holds : tie.Need-loop-holds Inv-loop μ-loop
-loop-holds c = (omega arith, start (c .before .before .before .before .before .before .before .before .before .before .before .pre) _ _)
+loop-holds c = (omega arith, start (c .before .before .before .before .before .before .before .before .before .before .before .pre .1) _ _)
 
 -- src/packed.rt:91:26
 mul-at : tie.Need-mul-at Inv-loop μ-loop
-mul-at c = omega (arith, c .before .before .before .before .before .before .before .before .before .before .before .before .before .pre .inside, c .loop-test .taken)
+mul-at c = omega (arith, c .before .before .before .before .before .before .before .before .before .before .before .before .before .pre .1 .inside, c .loop-test .taken)
 
 -- src/packed.rt:91:18
 add-at : tie.Need-add-at Inv-loop μ-loop
-add-at c = omega (arith, c .before .before .before .before .before .before .before .before .before .before .before .before .before .pre .inside, c .loop-test .taken)
+add-at c = omega (arith, c .before .before .before .before .before .before .before .before .before .before .before .before .before .pre .1 .inside, c .loop-test .taken)
 
 -- src/packed.rt:92:13
 packed-word-requires : tie.Need-packed-word-requires Inv-loop μ-loop
-packed-word-requires c κs = word-ready (c .before .before .before .before .before .before .before .before .before .before .before .before .before .pre) (lent (c .before)) _ (c .loop-test .taken)
+packed-word-requires c κs = word-ready (c .before .before .before .before .before .before .before .before .before .before .before .before .before .pre .1) (lent (c .before)) _ (c .loop-test .taken)
 
 -- src/packed.rt:93:9
 put-step-word-requires : tie.Need-put-step-word-requires Inv-loop μ-loop
-put-step-word-requires c κs = (c .before .before .before .before .before .before .before .before .before .before .before .before .before .before .before .pre .within, (rw (c .before .packed-word .ensures) (word-in (c .before .before .before .before .before .before .before .before .before .before .before .before .before .before .before .pre) (lent (c .before .before .before)) _ (c .before .before .loop-test .taken)), near (c .before .before .before .before .before .before .before .before .before .before .before .before .before .before .before .pre) (lent (c .before .before .before)) _ (c .before .before .before .loop .inv .1) (c .before .before .before .loop .inv .0) (c .before .before .before .before .before .before .begin .ensures .1)))
+put-step-word-requires c κs = (c .before .before .before .before .before .before .before .before .before .before .before .before .before .before .before .pre .0, (rw (c .before .packed-word .ensures) (word-in (c .before .before .before .before .before .before .before .before .before .before .before .before .before .before .before .pre .1) (lent (c .before .before .before)) _ (c .before .before .loop-test .taken)), near (c .before .before .before .before .before .before .before .before .before .before .before .before .before .before .before .pre .1) (lent (c .before .before .before)) _ (c .before .before .before .loop .inv .1) (c .before .before .before .loop .inv .0) (c .before .before .before .before .before .before .begin .ensures .1)))
 
 -- src/packed.rt:94:9
 add-i : tie.Need-add-i Inv-loop μ-loop
@@ -81,11 +81,11 @@ loop-less c = omega (arith, c .before .before .before .before .before .loop-test
 
 -- src/packed.rt:90:5
 loop-again : tie.Need-loop-again Inv-loop μ-loop
-loop-again c = (omega arith, turn (c .before .before .before .before .before .before .before .before .before .before .before .before .before .before .before .before .before .before .pre) (lent (c .before .before .before .before .before .before)) _ (c .before .before .before .before .before .before .loop .inv .1) (rw (c .before .before .before .before .packed-word .ensures) at (c .before .before .put-step-word .ensures)))
+loop-again c = (omega arith, turn (c .before .before .before .before .before .before .before .before .before .before .before .before .before .before .before .before .before .before .pre .1) (lent (c .before .before .before .before .before .before)) _ (c .before .before .before .before .before .before .loop .inv .1) (rw (c .before .before .before .before .packed-word .ensures) at (c .before .before .put-step-word .ensures)))
 
 -- src/packed.rt:96:9
 close-requires : tie.Need-close-requires Inv-loop μ-loop
-close-requires c κs = (c .before .before .before .before .before .before .before .before .before .before .before .before .before .before .pre .within, omega (arith, near (c .before .before .before .before .before .before .before .before .before .before .before .before .before .before .pre) (lent (c .before .before)) _ (c .before .before .loop .inv .1) (c .before .before .loop .inv .0) (c .before .before .before .before .before .begin .ensures .1)))
+close-requires c κs = (c .before .before .before .before .before .before .before .before .before .before .before .before .before .before .pre .0, omega (arith, near (c .before .before .before .before .before .before .before .before .before .before .before .before .before .before .pre .1) (lent (c .before .before)) _ (c .before .before .loop .inv .1) (c .before .before .loop .inv .0) (c .before .before .before .before .before .begin .ensures .1)))
 
 -- src/packed.rt:70:1
 same-length : tie.Need-same-length Inv-loop μ-loop
@@ -93,7 +93,7 @@ same-length c = c .before .before .close .kept .1 .1 .0 ∙ laid-kept (c .before
 
 -- src/packed.rt:70:1
 returns : tie.Need-returns Inv-loop μ-loop
-returns c = printed (c .before .before .before .before .before .before .before .before .before .before .before .before .before .before .before .before .before .pre) (lent (c .before .before .before .before .before)) _ (c .before .before .before .before .before .loop .inv .1) (omega arith) (c .before .before .before .before .before .before .before .before .begin .ensures .0) (c .before .before .close .ensures)
+returns c = printed (c .before .before .before .before .before .before .before .before .before .before .before .before .before .before .before .before .before .pre .1) (lent (c .before .before .before .before .before)) _ (c .before .before .before .before .before .loop .inv .1) (omega arith) (c .before .before .before .before .before .before .before .before .begin .ensures .0) (c .before .before .close .ensures)
 
 pub packed-text-spec : {M : Type 1} → statement M
 packed-text-spec =
