@@ -3,3 +3,4 @@ pub mod Laying
 pub mod Held
 pub mod PackedLaws
 pub mod NormalLaws
+pub mod NamedLaws
