@@ -21,6 +21,7 @@ use Rattle.words.specs.Spelled.{spelled, mostLaid}
 use Rattle.words.specs.Carried.{StepSound}
 use Rattle.words.specs.Tables.{NameIs, word-spelled}
 use Rattle.steptexts.specs.Texts.{wordFor, Printed}
+use Rattle.steptexts.proofs.Lent.{Lent}
 
 -- ---- by the sections
 
@@ -57,12 +58,6 @@ module _ {ss hs b : List ℕ} {thm : ℕ} {explicit : Bool} {number : ℕ → �
   laid-near a = a .laid .near
 
 -- ---- of a table
-
--- the sections are those of a table
-pub record Lent (w ss hs : List ℕ) (thm : ℕ) : Type 0 where
-  pub statements-are : ss ≡ statementWords w
-  pub hyps-are : hs ≡ hypWords w
-  pub theorem-is : thm ≡ theorem w
 
 module _ (w b : List ℕ) (ok : tableRefusal w b ≡ 0) (explicit : Bool) (number : ℕ → ℕ) (m : ℕ) (names : (k : ℕ) → k ≤ m → NameIs w b k (number k)) where
   words-are : (ts : List Step) → All (StepSound w m) ts → map (wordIn (statementWords w) (hypWords w) b (theorem w) explicit number) ts ≡ map (stepWord w b explicit) ts

@@ -29,7 +29,8 @@ use Rattle.words.specs.Spelled.{HypReady, wordOf, spelled, WordInside, mostLaid
 use Rattle.words.specs.Carried.{StepSound, normal-sound}
 use Rattle.words.specs.Tables.{NameIs, no-name, statement-in, hyp-ready, word-inside}
 use Rattle.steptexts.specs.Texts.{Printed, NormalReady}
-use Rattle.steptexts.proofs.Laying.{Laid, Lent, wordIn, none-laid, one-laid, laid-near, all-printed}
+use Rattle.steptexts.proofs.Lent.{Lent, Entered}
+use Rattle.steptexts.proofs.Laying.{Laid, none-laid, one-laid, laid-near, all-printed}
 
 -- no step has a name
 abbrev pub unnamed : ℕ → ℕ
@@ -49,66 +50,83 @@ start line out stack depth s = record { done = []; laid = none-laid line out; re
 
 -- ---- a table that is not refused
 
-module _ {w b : List ℕ} {room : ℕ} (r : NormalReady w b room) where
-  -- what the walk asks for
-  pub may-walk : {es cs : List ℕ} (q : ℕ) → es ≡ entryWords w → cs ≡ childWords w → q ≡ qed w → Entries es cs × ((q < size es) × (pairSize * size es ≤ room))
-  may-walk q es-is cs-is q-is =
-      rw (es-is, cs-is, q-is) (entries-of w b (r .ok), (qed-inside w b (r .ok), omega (arith, entries-size w b (r .ok), r .stack-in)))
+-- what the walk asks for
+pub may-walk : {w b : List ℕ} {room : ℕ} {es cs : List ℕ} {q : ℕ} → NormalReady w b room → Entered w es cs q
+    → Entries es cs × ((q < size es) × (pairSize * size es ≤ room))
+may-walk {w} {b} r e =
+    rw (e .entries-are, e .children-are, e .qed-is) (entries-of w b (r .ok), (qed-inside w b (r .ok), omega (arith, entries-size w b (r .ok), r .stack-in)))
 
-  few : (explicit : Bool) → length (normalOf w explicit) ≤ maxNormalSteps
+-- the walk begins in the first stack
+pub record Here (w b : List ℕ) (room : ℕ) (ss hs : List ℕ) (thm : ℕ) (es cs : List ℕ) (q : ℕ) (stack₀ : List ℕ) : Type 0 where
+  pub ready : NormalReady w b room
+  pub lent : Lent w ss hs thm
+  pub entered : Entered w es cs q
+  pub begins : Begins es cs q stack₀
+
+module _ {w b : List ℕ} {room : ℕ} {ss hs : List ℕ} {thm : ℕ} {es cs : List ℕ} {q : ℕ} {stack₀ : List ℕ} (h : Here w b room ss hs thm es cs q stack₀) where
+  -- all steps to come are the table's
+  all-are : (explicit : Bool) → left es cs explicit stack₀ 1 ≡ normalOf w explicit
+  all-are explicit =
+      h .begins .all-left explicit
+      ∙ rw (h .entered .entries-are, h .entered .children-are, h .entered .qed-is) (normal-of w b (h .ready .ok) explicit)
+
+  all-sound : (explicit : Bool) → All (StepSound w 0) (left es cs explicit stack₀ 1)
+  all-sound explicit = rw (all-are explicit) (normal-sound w b (h .ready .ok) explicit)
+
+  few : (explicit : Bool) → length (left es cs explicit stack₀ 1) ≤ maxNormalSteps
   unfolding bad13 normalOf NormalCountLaw
   few explicit =
-      omega (arith, normal-count (graphOf w) (qed w) explicit, ltb-false maxNormalSteps (normalCount (graphOf w) (qed w)) (r .few))
+      omega (
+        arith,
+        ap length (all-are explicit),
+        normal-count (graphOf w) (qed w) explicit,
+        ltb-false maxNormalSteps (normalCount (graphOf w) (qed w)) (h .ready .few),
+      )
 
-  module _ {es cs : List ℕ} {q : ℕ} (es-is : es ≡ entryWords w) (cs-is : cs ≡ childWords w) (q-is : q ≡ qed w) {stack₀ : List ℕ} (begins : Begins es cs q stack₀) (explicit : Bool) where
-    -- all steps to come are the table's
-    all-are : left es cs explicit stack₀ 1 ≡ normalOf w explicit
-    all-are = begins .all-left explicit ∙ rw (es-is, cs-is, q-is) (normal-of w b (r .ok) explicit)
+  module _ {explicit : Bool} {l : Layout} {first line : End} {before between stack : List ℕ} {depth : ℕ}
+      (k : Walked ss hs b thm explicit l es cs first line before between stack₀ 1 stack depth) where
+    pub near : first .end < mostBefore → line .end + mostLaid < farthest
+    near first-near =
+        omega (arith, first-near, few explicit, ap length (k .rest), length-append (k .done) (left es cs explicit stack depth), laid-near (k .laid))
 
-    all-sound : All (StepSound w 0) (left es cs explicit stack₀ 1)
-    all-sound = rw all-are (normal-sound w b (r .ok) explicit)
+    -- the next step
+    module _ {stack′ : List ℕ} {statement depth′ : ℕ} {hyp : ParentHyp} (s : Stepped es cs explicit (left es cs explicit stack depth) stack′ statement hyp depth′) where
+      abbrev next : Step
+      next = step 0 0 statement (parentOf hyp) (indexOf hyp)
 
-    module _ {ss hs : List ℕ} {thm : ℕ} (lent : Lent w ss hs thm) {l : Layout} {first line : End} {before between stack : List ℕ} {depth : ℕ}
-        (k : Walked ss hs b thm explicit l es cs first line before between stack₀ 1 stack depth) where
-      done-few : length (k .done) ≤ maxNormalSteps
-      done-few = omega (arith, few explicit, ap length (sym all-are ∙ k .rest), length-append (k .done) (left es cs explicit stack depth))
+      more : left es cs explicit stack₀ 1 ≡ (k .done ++ (next ∷ [])) ++ left es cs explicit stack′ depth′
+      more = k .rest ∙ ap (λ (x : List Step). k .done ++ x) (s .taken) ∙ sym (append-assoc (k .done) (next ∷ []) (left es cs explicit stack′ depth′))
 
-      pub near : first .end < mostBefore → line .end + mostLaid < farthest
-      near h = omega (arith, done-few, laid-near (k .laid))
+      next-sound : StepSound w 0 next
+      next-sound =
+          all-split (StepSound w 0) (k .done) (next ∷ []) (all-split (StepSound w 0) (k .done ++ (next ∷ [])) _ (subst (All (StepSound w 0)) more (all-sound explicit)) .0) .1 .0
 
-      -- the next step
-      module _ {stack′ : List ℕ} {statement depth′ : ℕ} {hyp : ParentHyp} (s : Stepped es cs explicit (left es cs explicit stack depth) stack′ statement hyp depth′) where
-        abbrev next : Step
-        next = step 0 0 statement (parentOf hyp) (indexOf hyp)
+      -- what its word asks for
+      pub word-ready : StatementIn ss statement × HypReady ss hs thm (parentOf hyp) (indexOf hyp)
+      word-ready =
+          rw (h .lent .statements-are, h .lent .hyps-are, h .lent .theorem-is)
+          (statement-in w b (h .ready .ok) _ (next-sound .fits .stmt-below), hyp-ready w b (h .ready .ok) _ _ (next-sound .hyp))
 
-        more : left es cs explicit stack₀ 1 ≡ (k .done ++ (next ∷ [])) ++ left es cs explicit stack′ depth′
-        more = k .rest ∙ ap (λ (x : List Step). k .done ++ x) (s .taken) ∙ sym (append-assoc (k .done) (next ∷ []) (left es cs explicit stack′ depth′))
+      pub word-in : WordInside b (wordOf ss hs thm explicit 0 0 statement (parentOf hyp) (indexOf hyp))
+      word-in =
+          rw (h .lent .statements-are, h .lent .hyps-are, h .lent .theorem-is) (word-inside w b (h .ready .ok) next 0 next-sound explicit 0 0)
 
-        next-sound : StepSound w 0 next
-        next-sound =
-            all-split (StepSound w 0) (k .done) (next ∷ []) (all-split (StepSound w 0) (k .done ++ (next ∷ [])) _ (subst (All (StepSound w 0)) more all-sound) .0) .1 .0
+      -- and it is laid
+      pub turn : {last : End} {after : List ℕ}
+          → Lays (λ v. putWord l v (spelled b (wordOf ss hs thm explicit 0 0 statement (parentOf hyp) (indexOf hyp)))) mostLaid line last between after
+          → Walked ss hs b thm explicit l es cs first last before after stack₀ 1 stack′ depth′
+      turn one = record { done = k .done ++ (next ∷ []); laid = one-laid next (k .laid) one; rest = more; stacked = s .stacked }
 
-        -- what its word asks for
-        pub word-ready : StatementIn ss statement × HypReady ss hs thm (parentOf hyp) (indexOf hyp)
-        word-ready =
-            rw (lent .statements-are, lent .hyps-are, lent .theorem-is)
-            (statement-in w b (r .ok) _ (next-sound .fits .stmt-below), hyp-ready w b (r .ok) _ _ (next-sound .hyp))
+    -- none is left
+    pub printed : left es cs explicit stack depth ≡ [] → {last : End} {most : ℕ} {start after : List ℕ} → Wrote (begin l) first start before
+        → Lays (λ v. putWord l v endWord) most line last between after → Printed (stepsText w b l explicit (normalOf w explicit)) (last .end) start after
+    printed none wrote ended =
+        let ok = h .ready .ok in
+        let whole : k .done ≡ normalOf w explicit = sym (k .rest ∙ ap (λ (x : List Step). k .done ++ x) none ∙ append-nil (k .done)) ∙ all-are explicit in
+        all-printed w b ok explicit unnamed 0 (λ m small. no-name w b m (omega arith)) l (h .lent) (normalOf w explicit) (normal-sound w b ok explicit)
+        wrote (rw whole at (k .laid)) ended
 
-        pub word-in : WordInside b (wordOf ss hs thm explicit 0 0 statement (parentOf hyp) (indexOf hyp))
-        word-in = rw (lent .statements-are, lent .hyps-are, lent .theorem-is) (word-inside w b (r .ok) next 0 next-sound explicit 0 0)
-
-        -- and it is laid
-        pub turn : {last : End} {after : List ℕ} → Lays (λ v. putWord l v (spelled b (wordOf ss hs thm explicit 0 0 statement (parentOf hyp) (indexOf hyp)))) mostLaid line last between after
-            → Walked ss hs b thm explicit l es cs first last before after stack₀ 1 stack′ depth′
-        turn one = record { done = k .done ++ (next ∷ []); laid = one-laid next (k .laid) one; rest = more; stacked = s .stacked }
-
-        -- fewer are left
-        pub fewer : length (left es cs explicit stack′ depth′) < length (left es cs explicit stack depth)
-        fewer = omega (arith, ap length (s .taken))
-
-      -- none is left
-      pub printed : left es cs explicit stack depth ≡ [] → {last : End} {most : ℕ} {begun after : List ℕ} → Wrote (begin l) first begun before
-          → Lays (λ v. putWord l v endWord) most line last between after → Printed (stepsText w b l explicit (normalOf w explicit)) (last .end) begun after
-      printed none wrote ended =
-          let whole : k .done ≡ normalOf w explicit = sym (k .rest ∙ ap (λ (x : List Step). k .done ++ x) none ∙ append-nil (k .done)) ∙ all-are in
-          all-printed w b (r .ok) explicit unnamed 0 (λ m h. no-name w b m (omega arith)) l lent (normalOf w explicit) (normal-sound w b (r .ok) explicit) wrote (rw whole at (k .laid)) ended
+-- a step taken leaves fewer
+pub fewer : {es cs : List ℕ} {explicit : Bool} {ts : List Step} {stack : List ℕ} {statement depth : ℕ} {hyp : ParentHyp} → Stepped es cs explicit ts stack statement hyp depth
+    → length (left es cs explicit stack depth) < length ts
+fewer s = omega (arith, ap length (s .taken))

@@ -24,8 +24,9 @@ use Rattle.words.specs.Spelled.{WordInside, mostLaid}
 use Rattle.words.specs.Carried.{StepSound, packed-sound}
 use Rattle.words.specs.Tables.{NameIs, statement-in, hyp-ready, word-inside}
 use Rattle.steptexts.specs.Texts.{numberAt, stepAt, wordFor, WordReady, Printed, PackedReady}
+use Rattle.steptexts.proofs.Lent.{Lent}
 use Rattle.steptexts.proofs.Held.{stepsIn, none-in, one-in, length-in, step-is, all-are}
-use Rattle.steptexts.proofs.Laying.{Laid, Lent, wordIn, none-laid, one-laid, laid-near, all-printed}
+use Rattle.steptexts.proofs.Laying.{Laid, wordIn, none-laid, one-laid, laid-near, all-printed}
 
 module _ {w b : List ℕ} {explicit : Bool} {steps many names : ℕ} {ws : List ℕ} (r : PackedReady w b explicit steps many names ws) where
   few : many ≤ maxChildRefs + 1
