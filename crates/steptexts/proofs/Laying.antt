@@ -1,12 +1,11 @@
 -- The words of steps, laid one after the other: what a loop over the steps keeps, its start, a turn and its end.
 -- The words are by the sections of a table; at the end they are document 01's words of the table's steps.
-use mathlib.Core.Path.{_≡_, refl, sym, ap, ap₂, _∙_, subst}
+use mathlib.Core.Path.{_≡_, refl, sym, ap, ap₂, _∙_}
 use mathlib.Core.Bool.{Bool}
 use mathlib.Core.List.{List, [], _∷_, _++_, map}
-use Prim.Native.Nat.{ℕ, _+_, _*_, _≤_, _<_}
+use Prim.Native.Nat.{ℕ, _+_, _*_, _≤_}
 use native.Mathlib.Omega.{arith}
 use lib.ListN.{length, length-append}
-use Rattle.laws.specs.Tools.{over}
 use Rattle.laws.specs.Lists.{All, map-snoc}
 use Rattle.defs.specs.Table.{theorem, statementWords, hypWords}
 use Rattle.defs.specs.Check.{tableRefusal}

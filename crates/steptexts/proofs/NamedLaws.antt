@@ -6,15 +6,14 @@ use mathlib.Core.List.{List, _++_}
 use Prim.Native.Nat.{ℕ, _+_, _*_, _-_, _/_, _≤_, _<_}
 use native.Mathlib.Omega.{arith}
 use borrow.Rule.Slice.PartMut.{putMid, midOf, same-len-mid, mid-len}
-use lib.ListN.{length, getD, take, drop, List·getD-append, take-append-drop}
+use lib.ListN.{length, take, drop, List·getD-append}
 use lib.Seq.{ext-getD, length-take-le, getD-append-add, getD-take}
 use Rattle.laws.specs.Tools.{part}
 use Rattle.laws.specs.Lists.{part-at, part-length}
-use Rattle.defs.specs.Table.{word, maxEntries, statements, entries, childRefs, qed, statementWords, entryWords, childWords}
+use Rattle.defs.specs.Table.{word, maxEntries, statements, entries, qed, statementWords, entryWords, childWords}
 use Rattle.defs.specs.Check.{tableRefusal}
 use Rattle.defs.specs.Checked.{header}
 use Rattle.defs.specs.Laws.{good, flat-length}
-use Rattle.defs.specs.Names.{nameNumber}
 use Rattle.defs.specs.Refusals.{need32}
 use Rattle.defs.specs.Steps.{stepSize, flat}
 use Rattle.defs.specs.Text.{packedOf}
@@ -73,9 +72,10 @@ module _ (w b : List ℕ) (ok : tableRefusal w b ≡ 0) {explicit : Bool} {es cs
       -- what the naming asks for
       pub may-name : StatementsOk ss b (statementsIn ss) × ((count ≤ maxEntries) × (namesLength ss count ≤ length (midOf end (length ws - end) ws)))
       may-name =
-          rw (ss-is, count-is)
-          (section-ok w b ok,
-          (header w (good w b ok .ok1) .n-most, omega (arith, names-room, statements-in w b ok, mid-len end (length ws) ws (omega arith))))
+          rw (ss-is, count-is) (
+            section-ok w b ok,
+            (header w (good w b ok .ok1) .n-most, omega (arith, names-room, statements-in w b ok, mid-len end (length ws) ws (omega arith))),
+          )
 
       -- and then all is there
       pub ready : {ys : List ℕ} → NamesLeft ss b count (midOf end (length ws - end) ws) ys → length ys ≡ length (midOf end (length ws - end) ws)

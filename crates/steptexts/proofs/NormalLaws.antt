@@ -1,7 +1,7 @@
 -- The normal text of a table: of all the steps to come some are laid and the others are left in the stack. A turn takes the next.
 -- A list that test 13 lets pass has at most 1,000,000 steps, so nothing wraps.
 use mathlib.Core.Path.{_≡_, refl, sym, ap, _∙_, subst}
-use mathlib.Core.Bool.{Bool, false}
+use mathlib.Core.Bool.{Bool}
 use mathlib.Core.List.{List, [], _∷_, _++_, append-nil, append-assoc}
 use Prim.Native.Nat.{ℕ, _+_, _*_, _-_, _≤_, _<_}
 use native.Mathlib.Omega.{arith}
@@ -9,11 +9,11 @@ use lib.ListN.{length, length-append}
 use borrow.Author.Tests.{ltb-false}
 use Rattle.laws.specs.Lists.{All, all-split}
 use Rattle.laws.specs.Puts.{farthest}
-use Rattle.defs.specs.Table.{entries, qed, statementWords, hypWords, entryWords, childWords}
-use Rattle.defs.specs.Graph.{graphIn, graphOf}
+use Rattle.defs.specs.Table.{qed}
+use Rattle.defs.specs.Graph.{graphOf}
 use Rattle.defs.specs.Layout.{Layout, begin, putWord}
 use Rattle.defs.specs.Refusals.{maxNormalSteps, bad13}
-use Rattle.defs.specs.Steps.{Step, normalSteps, normalCount, NormalCountLaw}
+use Rattle.defs.specs.Steps.{Step, normalCount, NormalCountLaw}
 use Rattle.defs.specs.Laws.{normal-count}
 use Rattle.defs.specs.Text.{normalOf, endWord, stepsText}
 use Rattle.layout.specs.declared.lines.Line.{Line as End}
@@ -27,7 +27,7 @@ use Rattle.walk.specs.Tables.{entries-size, qed-inside, normal-of}
 use Rattle.walk.specs.declared.hyps.ParentHyp.{ParentHyp}
 use Rattle.words.specs.Spelled.{HypReady, wordOf, spelled, WordInside, mostLaid}
 use Rattle.words.specs.Carried.{StepSound, normal-sound}
-use Rattle.words.specs.Tables.{NameIs, no-name, statement-in, hyp-ready, word-inside}
+use Rattle.words.specs.Tables.{no-name, statement-in, hyp-ready, word-inside}
 use Rattle.steptexts.specs.Texts.{Printed, NormalReady}
 use Rattle.steptexts.proofs.Lent.{Lent, Entered}
 use Rattle.steptexts.proofs.Laying.{Laid, none-laid, one-laid, laid-near, all-printed}

@@ -1,21 +1,19 @@
 -- The packed text of a table: what each step asks for has been met by the check and the walk, and nothing wraps.
 -- A packed list has at most one step more than the table has child references.
-use mathlib.Core.Path.{_≡_, sym, ap, _∙_, subst}
+use mathlib.Core.Path.{_≡_, ap, _∙_}
 use mathlib.Core.Bool.{Bool}
-use mathlib.Core.List.{List, [], _∷_, _++_}
+use mathlib.Core.List.{List}
 use Prim.Native.Nat.{ℕ, _+_, _*_, _≤_, _<_}
 use native.Mathlib.Omega.{arith}
-use native.Mathlib.Decide.{ℕ-discrete}
-use lib.ListN.{length}
 use Rattle.laws.specs.Lists.{all-at, eqb-yes, eqb-no}
 use Rattle.laws.specs.Puts.{farthest}
 use Rattle.defs.specs.Table.{entries, maxChildRefs, statements, statementWords}
 use Rattle.defs.specs.Checked.{header}
 use Rattle.defs.specs.Laws.{good}
 use Rattle.defs.specs.Layout.{Layout, begin, putWord}
-use Rattle.defs.specs.Names.{digits, nameNumber, name}
+use Rattle.defs.specs.Names.{name}
 use Rattle.defs.specs.NameLaws.{name-least}
-use Rattle.defs.specs.Steps.{Step, stepSize}
+use Rattle.defs.specs.Steps.{stepSize}
 use Rattle.defs.specs.Text.{packedOf, endWord, stepsText}
 use Rattle.lengths.specs.Bound.{packed-most}
 use Rattle.layout.specs.declared.lines.Line.{Line as End}

@@ -1,8 +1,9 @@
 -- Steps in a slice of words and their words by the sections of a table; what the texts require, and what they leave.
 use mathlib.Core.Path.{_≡_}
-use mathlib.Core.Bool.{Bool, false}
+use mathlib.Core.Bool.{Bool, true, false}
 use mathlib.Core.List.{List}
 use Prim.Native.Nat.{ℕ, _+_, _*_, _≤_, _<_}
+use native.Mathlib.Omega.{arith}
 use lib.ListN.{length}
 use lib.Dec.{eqb}
 use Rattle.laws.specs.Tools.{pick, part, over}
@@ -10,8 +11,9 @@ use Rattle.defs.specs.Table.{word, entries}
 use Rattle.defs.specs.Check.{tableRefusal}
 use Rattle.defs.specs.Names.{nameNumber}
 use Rattle.defs.specs.Steps.{Step, stepSize, flat}
-use Rattle.defs.specs.Text.{packedOf}
-use Rattle.defs.specs.Refusals.{bad13}
+use Rattle.defs.specs.Layout.{Layout}
+use Rattle.defs.specs.Text.{isCompressed, isPacked, isExplicit, packedOf, normalOf, stepsText, textOf}
+use Rattle.defs.specs.Refusals.{need32, bad13}
 use Rattle.table.specs.Records.{StatementIn}
 use Rattle.walk.specs.Normal.{pairSize}
 use Rattle.walk.specs.Steps.{step}
@@ -62,3 +64,28 @@ pub record NormalReady (w b : List ℕ) (room : ℕ) : Type 0 where
   pub ok : tableRefusal w b ≡ 0
   pub few : bad13 w ≡ false
   pub stack-in : pairSize * entries w ≤ room
+
+-- ---- what an operation that writes a table's text has
+
+module _ (w b : List ℕ) (ok : tableRefusal w b ≡ 0) where
+  -- the working slice has room for the stack
+  pub normal-ready : (room : ℕ) → bad13 w ≡ false → need32 w ≤ room → NormalReady w b room
+  unfolding need32
+  normal-ready room few enough = record { ok = ok; few = few; stack-in = omega arith }
+
+second : (c p : Bool) (x y z : List ℕ) → c ≡ false → p ≡ true → pick c x (pick p y z) ≡ y
+second c p x y z e f = rw (e, f)
+
+third : (c p : Bool) (x y z : List ℕ) → c ≡ false → p ≡ false → pick c x (pick p y z) ≡ z
+third c p x y z e f = rw (e, f)
+
+module _ (w b : List ℕ) (style : ℕ) (l : Layout) where
+  -- the text of styles 2 and 4
+  pub packed-style : isCompressed style ≡ false → isPacked style ≡ true → textOf w b style l ≡ stepsText w b l (isExplicit style) (packedOf w (isExplicit style))
+  unfolding textOf
+  packed-style plain packed = second (isCompressed style) (isPacked style) _ _ _ plain packed
+
+  -- and of styles 1 and 3
+  pub normal-style : isCompressed style ≡ false → isPacked style ≡ false → textOf w b style l ≡ stepsText w b l (isExplicit style) (normalOf w (isExplicit style))
+  unfolding textOf
+  normal-style plain normal = third (isCompressed style) (isPacked style) _ _ _ plain normal

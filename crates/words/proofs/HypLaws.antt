@@ -1,6 +1,6 @@
 -- The hypothesis that a step stands for: by the enum that the code takes apart, and by the two words that the definition reads.
 -- A step of the root has parent word 0; any other has its parent's number plus 1.
-use mathlib.Core.Path.{_≡_, sym, ap, _∙_}
+use mathlib.Core.Path.{_≡_, sym}
 use mathlib.Core.List.{List}
 use Prim.Native.Nat.{ℕ, _+_, _-_, _<_}
 use native.Mathlib.Omega.{arith}

@@ -1,12 +1,11 @@
 -- A word in three parts: how long it is, that its bytes are those of its parts one after the other, and how it is laid on a line.
 -- Nothing is asked of the line but that its end is near.
-use mathlib.Core.Path.{_≡_, refl}
-use mathlib.Core.List.{List, _++_}
-use Prim.Native.Nat.{ℕ, _+_, _≤_}
+use mathlib.Core.Path.{refl}
+use mathlib.Core.List.{List}
+use Prim.Native.Nat.{ℕ}
 use native.Mathlib.Omega.{arith}
-use lib.ListN.{length}
 use Rattle.laws.specs.Puts.{Grows, grows-then}
-use Rattle.defs.specs.Layout.{Layout, Line, putWord}
+use Rattle.defs.specs.Layout.{Layout, putWord}
 use Rattle.layout.specs.declared.lines.Line.{Line as End}
 use Rattle.layout.specs.Laid.{opened, mostBefore, Lays}
 use Rattle.layout.proofs.Wrote.{lays-as}

@@ -1,13 +1,13 @@
 -- The words of a table's steps: what is looked up for a step in the sections of a table that is not refused spells the word of document 01.
-use mathlib.Core.Path.{_≡_, refl, sym, ap, ap₂, _∙_}
+use mathlib.Core.Path.{_≡_, refl, sym}
 use mathlib.Core.Bool.{Bool, true, false}
 use mathlib.Core.List.{List, [], _∷_, _++_}
-use Prim.Native.Nat.{ℕ, _+_, _-_, _≤_, _<_}
+use Prim.Native.Nat.{ℕ, _+_, _-_, _<_}
 use native.Mathlib.Omega.{arith}
 use native.Mathlib.Decide.{ℕ-discrete}
 use lib.ListN.{length, getD}
 use lib.Dec.{eqb}
-use Rattle.laws.specs.Tools.{pick, part}
+use Rattle.laws.specs.Tools.{pick}
 use Rattle.laws.specs.Lists.{eqb-yes, eqb-no, part-at}
 use Rattle.defs.specs.Bytes.{colon, equalsSign}
 use Rattle.defs.specs.Table.{word, theorem, statements, statementWords, hypWords, labelIn, hypsIn, hypStartIn, hypCountIn, label, hyps}
@@ -18,7 +18,6 @@ use Rattle.defs.specs.Names.{digits, name}
 use Rattle.defs.specs.Steps.{Step}
 use Rattle.defs.specs.Text.{hypPrefix, stepWord}
 use Rattle.table.specs.Records.{StatementIn}
-use Rattle.words.specs.declared.spans.Span.{Span}
 use Rattle.words.specs.Spelled.{noSpan, spanOf, Inside, hypStatement, hypSpan, HypReady, wordOf, markPart, hypPart, lastPart, spelled, WordInside}
 use Rattle.words.specs.Carried.{HypOk, StepSound}
 

@@ -1,44 +1,33 @@
+-- `hyp_statement` meets its contract: the enum is taken apart at once, and its two cases are those of the parent word,
+-- 0 at the root and the parent's number plus 1 elsewhere.
 use mathlib.Core.Path.{_∙_}
-use Rattle.words.proofs.HypLaws.{root-statement, of-statement, parent-stands, list-stands}
 use native.Mathlib.Omega.{arith}
 use borrow.Author.Needs.{needs}
+use Rattle.words.proofs.HypLaws.{root-statement, of-statement, parent-stands, list-stands}
 use Rattle.words.proofs.hyps.hyp_statement.Statement.{statement}
 use Rattle.words.proofs.hyps.hyp_statement.Tie as tie
-use Rattle.words.proofs.hyps.hyp_statement.Reads as reads
-use Rattle.words.proofs.hyps.hyp_statement.Lts as lts
-use Rattle.table.proofs.numbers.wide.Reads as wide-reads
-use Rattle.table.proofs.statements.hyp_start.Reads as hyp-start-reads
-use Rattle.table.proofs.statements.hypothesis.Reads as hypothesis-reads
 
--- src/hyps.rt:23:25
 enum-known-hyp : tie.Need-enum-known-hyp
 enum-known-hyp c = search needs
 
--- src/hyps.rt:24:9
 enum-told : tie.Need-enum-told
 enum-told c = search needs
 
--- src/hyps.rt:24:9
 returns : tie.Need-returns
 returns c = root-statement _ _ _ _ (c .enum-told .given .1)
 
--- src/hyps.rt:26:22
 hyp-start-requires : tie.Need-hyp-start-requires
 hyp-start-requires c κs = parent-stands _ _ _ _ _ _ (c .before .hyp .given .1) (c .before .before .before .before .before .pre)
 
--- src/hyps.rt:26:57
 wide-requires : tie.Need-wide-requires
 wide-requires c κs = search needs
 
--- src/hyps.rt:26:22
 add-hypothesis : tie.Need-add-hypothesis
 add-hypothesis c = omega (arith, c .before .hyp-start .ensures, c .wide .ensures, list-stands _ _ _ _ _ _ (c .before .before .before .hyp .given .1) (c .before .before .before .before .before .before .before .pre))
 
--- src/hyps.rt:26:5
 hypothesis-requires : tie.Need-hypothesis-requires
 hypothesis-requires c κs = omega (arith, c .before .hyp-start .ensures, c .wide .ensures, list-stands _ _ _ _ _ _ (c .before .before .before .hyp .given .1) (c .before .before .before .before .before .before .before .pre))
 
--- src/hyps.rt:14:1
 returns-2 : tie.Need-returns-2
 returns-2 c = rw (c .before .before .hyp-start .ensures, c .before .wide .ensures) at (c .hypothesis .ensures) ∙ of-statement _ _ _ _ _ _ (c .before .before .before .before .hyp .given .1)
 

@@ -1,32 +1,24 @@
-use Rattle.words.proofs.WordLaws.{spelled-put}
-use Rattle.words.proofs.PartLaws.{mark-most, hyp-most}
+-- `put_bytes` meets its contract: the parts are put one after the other, in the order of document 01.
+-- Each part is short, so each end is near enough for the next.
 use native.Mathlib.Omega.{arith}
 use borrow.Author.Needs.{needs}
+use Rattle.words.proofs.PartLaws.{mark-most, hyp-most}
+use Rattle.words.proofs.WordLaws.{spelled-put}
 use Rattle.words.proofs.word.put_bytes.Statement.{statement}
 use Rattle.words.proofs.word.put_bytes.Tie as tie
-use Rattle.words.proofs.word.put_bytes.Reads as reads
-use Rattle.words.proofs.word.put_bytes.Lts as lts
-use Rattle.words.proofs.parts.put_hyp.Reads as put-hyp-reads
-use Rattle.words.proofs.parts.put_last.Reads as put-last-reads
-use Rattle.words.proofs.parts.put_mark.Reads as put-mark-reads
 
--- src/word.rt:73:9
 put-mark-requires : tie.Need-put-mark-requires
 put-mark-requires c κs = search needs
 
--- src/word.rt:74:9
 put-hyp-requires : tie.Need-put-hyp-requires
 put-hyp-requires c κs = (c .before .before .before .before .before .before .before .pre .0 .hyp-in, omega (arith, c .before .before .before .before .before .before .before .pre .1, c .before .before .before .put-mark .ensures .ends, mark-most (c .before .before .before .before .before .before .before .args .word .mark) (omega (arith, c .before .before .before .before .before .before .before .good))))
 
--- src/word.rt:75:5
 put-last-requires : tie.Need-put-last-requires
 put-last-requires c κs = (c .before .before .before .before .before .before .before .before .before .before .before .pre .0 .label-in, omega (arith, c .before .before .before .before .before .before .before .before .before .before .before .pre .1, c .before .before .before .before .before .before .before .put-mark .ensures .ends, c .before .before .before .put-hyp .ensures .ends, mark-most (c .before .before .before .before .before .before .before .before .before .before .before .args .word .mark) (omega (arith, c .before .before .before .before .before .before .before .before .before .before .before .good)), hyp-most _ _ (c .before .before .before .before .before .before .before .before .before .before .before .pre .0 .hyp-in)))
 
--- src/word.rt:68:1
 same-length : tie.Need-same-length
 same-length c = search needs
 
--- src/word.rt:68:1
 returns : tie.Need-returns
 returns c = spelled-put _ _ (c .before .before .before .before .before .before .before .before .before .before .put-mark .ensures) (c .before .before .before .before .before .before .put-hyp .ensures) (c .before .before .put-last .ensures)
 
