@@ -69,16 +69,16 @@ module _ (w b : List ℕ) (ok : tableRefusal w b ≡ 0) (explicit : Bool) (numbe
 
   -- the text begins, the words of all steps are laid, and the last word
   pub all-printed : (l : Layout) {ss hs : List ℕ} {thm : ℕ} → Lent w ss hs thm → (ts : List Step) → All (StepSound w m) ts
-      → {first line last : End} {most : ℕ} {start before between after : List ℕ} → Wrote (begin l) first start before
+      → {first line last : End} {most end : ℕ} {start before between after : List ℕ} → end ≡ last .end → Wrote (begin l) first start before
       → Laid ss hs b thm explicit number l ts first line before between → Lays (λ s. putWord l s endWord) most line last between after
-      → Printed (stepsText w b l explicit ts) (last .end) start after
+      → Printed (stepsText w b l explicit ts) end start after
   unfolding stepsText
-  all-printed l {ss} {hs} {thm} lent ts sound {start = start} begun a ended =
+  all-printed l {ss} {hs} {thm} lent ts sound {start = start} e begun a ended =
       let text : Line = putWords l (begin l) (map (wordIn ss hs b thm explicit number) ts) in
       let wrote = ended .lays text start (a .laid .lays (begin l) start begun) in
       let are : text ≡ putWords l (begin l) (map (stepWord w b explicit) ts) = ap (putWords l (begin l)) (rw (lent .statements-are, lent .hyps-are, lent .theorem-is) (words-are ts sound)) in
       let whole : close l (putWords l (begin l) (map (stepWord w b explicit) ts)) ≡ putWord l text endWord .text = ap (close l) (sym are) ∙ closed l text in
       record {
-        ends = wrote .ends ∙ ap length (sym whole);
+        ends = e ∙ wrote .ends ∙ ap length (sym whole);
         fits = λ h. rw whole (wrote-all wrote (omega (arith, wrote .ends, ap length whole)));
       }

@@ -25,6 +25,7 @@ use Rattle.walk.specs.Normal.{pairSize, Stacked, Begins, left, Stepped}
 use Rattle.walk.specs.Steps.{step}
 use Rattle.walk.specs.Tables.{entries-size, qed-inside, normal-of}
 use Rattle.walk.specs.declared.hyps.ParentHyp.{ParentHyp}
+use Rattle.words.specs.declared.word.Word.{Word}
 use Rattle.words.specs.Spelled.{HypReady, wordOf, spelled, WordInside, mostLaid}
 use Rattle.words.specs.Carried.{StepSound, normal-sound}
 use Rattle.words.specs.Tables.{no-name, statement-in, hyp-ready, word-inside}
@@ -107,24 +108,24 @@ module _ {w b : List ℕ} {room : ℕ} {ss hs : List ℕ} {thm : ℕ} {es cs : L
           rw (h .lent .statements-are, h .lent .hyps-are, h .lent .theorem-is)
           (statement-in w b (h .ready .ok) _ (next-sound .fits .stmt-below), hyp-ready w b (h .ready .ok) _ _ (next-sound .hyp))
 
-      pub word-in : WordInside b (wordOf ss hs thm explicit 0 0 statement (parentOf hyp) (indexOf hyp))
-      word-in =
-          rw (h .lent .statements-are, h .lent .hyps-are, h .lent .theorem-is) (word-inside w b (h .ready .ok) next 0 next-sound explicit 0 0)
+      pub word-in : {v : Word} → v ≡ wordOf ss hs thm explicit 0 0 statement (parentOf hyp) (indexOf hyp) → WordInside b v
+      word-in e =
+          rw (e, h .lent .statements-are, h .lent .hyps-are, h .lent .theorem-is) (word-inside w b (h .ready .ok) next 0 next-sound explicit 0 0)
 
       -- and it is laid
-      pub turn : {last : End} {after : List ℕ}
-          → Lays (λ v. putWord l v (spelled b (wordOf ss hs thm explicit 0 0 statement (parentOf hyp) (indexOf hyp)))) mostLaid line last between after
+      pub turn : {v : Word} {last : End} {after : List ℕ} → v ≡ wordOf ss hs thm explicit 0 0 statement (parentOf hyp) (indexOf hyp)
+          → Lays (λ s. putWord l s (spelled b v)) mostLaid line last between after
           → Walked ss hs b thm explicit l es cs first last before after stack₀ 1 stack′ depth′
-      turn one = record { done = k .done ++ (next ∷ []); laid = one-laid next (k .laid) one; rest = more; stacked = s .stacked }
+      turn e one = record { done = k .done ++ (next ∷ []); laid = one-laid next (k .laid) (rw e at one); rest = more; stacked = s .stacked }
 
     -- none is left
-    pub printed : left es cs explicit stack depth ≡ [] → {last : End} {most : ℕ} {start after : List ℕ} → Wrote (begin l) first start before
-        → Lays (λ v. putWord l v endWord) most line last between after → Printed (stepsText w b l explicit (normalOf w explicit)) (last .end) start after
-    printed none wrote ended =
+    pub printed : left es cs explicit stack depth ≡ [] → {last : End} {most end : ℕ} {start after : List ℕ} → end ≡ last .end → Wrote (begin l) first start before
+        → Lays (λ s. putWord l s endWord) most line last between after → Printed (stepsText w b l explicit (normalOf w explicit)) end start after
+    printed none e wrote ended =
         let ok = h .ready .ok in
         let whole : k .done ≡ normalOf w explicit = sym (k .rest ∙ ap (λ (x : List Step). k .done ++ x) none ∙ append-nil (k .done)) ∙ all-are explicit in
         all-printed w b ok explicit unnamed 0 (λ m small. no-name w b m (omega arith)) l (h .lent) (normalOf w explicit) (normal-sound w b ok explicit)
-        wrote (rw whole at (k .laid)) ended
+        e wrote (rw whole at (k .laid)) ended
 
 -- a step taken leaves fewer
 pub fewer : {es cs : List ℕ} {explicit : Bool} {ts : List Step} {stack : List ℕ} {statement depth : ℕ} {hyp : ParentHyp} → Stepped es cs explicit ts stack statement hyp depth

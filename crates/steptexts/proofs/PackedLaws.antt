@@ -18,13 +18,14 @@ use Rattle.defs.specs.Text.{packedOf, endWord, stepsText}
 use Rattle.lengths.specs.Bound.{packed-most}
 use Rattle.layout.specs.declared.lines.Line.{Line as End}
 use Rattle.layout.specs.Laid.{Wrote, Lays, mostBefore}
-use Rattle.words.specs.Spelled.{WordInside, mostLaid}
+use Rattle.words.specs.declared.word.Word.{Word}
+use Rattle.words.specs.Spelled.{spelled, WordInside, mostLaid}
 use Rattle.words.specs.Carried.{StepSound, packed-sound}
 use Rattle.words.specs.Tables.{NameIs, statement-in, hyp-ready, word-inside}
 use Rattle.steptexts.specs.Texts.{numberAt, stepAt, wordFor, WordReady, Printed, PackedReady}
 use Rattle.steptexts.proofs.Lent.{Lent}
 use Rattle.steptexts.proofs.Held.{stepsIn, none-in, one-in, length-in, step-is, all-are}
-use Rattle.steptexts.proofs.Laying.{Laid, wordIn, none-laid, one-laid, laid-near, all-printed}
+use Rattle.steptexts.proofs.Laying.{Laid, none-laid, one-laid, laid-near, all-printed}
 
 module _ {w b : List ℕ} {explicit : Bool} {steps many names : ℕ} {ws : List ℕ} (r : PackedReady w b explicit steps many names ws) where
   few : many ≤ maxChildRefs + 1
@@ -59,9 +60,9 @@ module _ {w b : List ℕ} {explicit : Bool} {steps many names : ℕ} {ws : List 
           hyp = rw (lent .statements-are, lent .hyps-are, lent .theorem-is) (hyp-ready w b (r .ok) _ _ (s .hyp));
         }
 
-    pub word-in : (i : ℕ) → i < many → WordInside b (wordFor ss hs thm explicit (numberAt ws names) (stepAt ws (steps + stepSize * i)))
-    word-in i h =
-        rw (lent .statements-are, lent .hyps-are, lent .theorem-is) (word-inside w b (r .ok) _ (entries w) (step-sound i h) explicit _ _)
+    pub word-in : (i : ℕ) → i < many → {v : Word} → v ≡ wordFor ss hs thm explicit (numberAt ws names) (stepAt ws (steps + stepSize * i)) → WordInside b v
+    word-in i h e =
+        rw (e, lent .statements-are, lent .hyps-are, lent .theorem-is) (word-inside w b (r .ok) _ (entries w) (step-sound i h) explicit _ _)
 
     -- the words of the first i steps are laid
     module _ {l : Layout} (i : ℕ) {first line : End} {before between : List ℕ} (laid : Laid ss hs b thm explicit (numberAt ws names) l (stepsIn ws steps i) first line before between) where
@@ -69,16 +70,17 @@ module _ {w b : List ℕ} {explicit : Bool} {steps many names : ℕ} {ws : List 
       near h k = omega (arith, few, laid-near laid, length-in ws steps i)
 
       -- and one more
-      pub turn : {next : End} {after : List ℕ} → Lays (λ s. putWord l s (wordIn ss hs b thm explicit (numberAt ws names) (stepAt ws (steps + stepSize * i)))) mostLaid line next between after
+      pub turn : {v : Word} {next : End} {after : List ℕ} → v ≡ wordFor ss hs thm explicit (numberAt ws names) (stepAt ws (steps + stepSize * i))
+          → Lays (λ s. putWord l s (spelled b v)) mostLaid line next between after
           → Laid ss hs b thm explicit (numberAt ws names) l (stepsIn ws steps (i + 1)) first next before after
-      turn one = rw (one-in ws steps i) (one-laid (stepAt ws (steps + stepSize * i)) laid one)
+      turn e one = rw (one-in ws steps i) (one-laid (stepAt ws (steps + stepSize * i)) laid (rw e at one))
 
       -- and all, between the beginning and the last word
-      pub printed : {last : End} {most : ℕ} {start after : List ℕ} → i ≡ many → Wrote (begin l) first start before → Lays (λ s. putWord l s endWord) most line last between after
-          → Printed (stepsText w b l explicit (packedOf w explicit)) (last .end) start after
-      printed e begun ended =
+      pub printed : {last : End} {most end : ℕ} {start after : List ℕ} → i ≡ many → end ≡ last .end → Wrote (begin l) first start before
+          → Lays (λ s. putWord l s endWord) most line last between after → Printed (stepsText w b l explicit (packedOf w explicit)) end start after
+      printed e f begun ended =
           let ts : stepsIn ws steps i ≡ packedOf w explicit = ap (stepsIn ws steps) e ∙ all-are ws steps many (packedOf w explicit) (r .as-many) (r .holds) in
-          all-printed w b (r .ok) explicit (numberAt ws names) (entries w) names-are l lent (packedOf w explicit) (packed-sound w b (r .ok) explicit) begun (rw ts at laid) ended
+          all-printed w b (r .ok) explicit (numberAt ws names) (entries w) names-are l lent (packedOf w explicit) (packed-sound w b (r .ok) explicit) f begun (rw ts at laid) ended
 
   -- none yet
   pub start : {ss hs : List ℕ} {thm : ℕ} {l : Layout} (line : End) (out : List ℕ) → Laid ss hs b thm explicit (numberAt ws names) l (stepsIn ws steps 0) line line out out

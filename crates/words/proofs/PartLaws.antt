@@ -45,9 +45,9 @@ module _ (number at : ℕ) where
   pub no-mark-put : (out : List ℕ) → number ≡ 0 → Grows (markPart number) at at out out
   no-mark-put out e = rw (mark-none number e) (grows-none at out)
 
-  pub mark-put : {mid end : ℕ} {before between after : List ℕ} → ¬ (number ≡ 0)
-      → Put (digits number) at mid before between → Put (colon ∷ []) mid end between after → Grows (markPart number) at end before after
-  mark-put h a b = rw (mark-some number h) (grows-more (grows-one a) b)
+  pub mark-put : {mid end byte : ℕ} {before between after : List ℕ} → ¬ (number ≡ 0) → byte ≡ colon
+      → Put (digits number) at mid before between → Put (byte ∷ []) mid end between after → Grows (markPart number) at end before after
+  mark-put h e a b = rw (mark-some number h, ← e) (grows-more (grows-one a) b)
 
 -- ---- the hypothesis' label and an equals sign
 
@@ -78,12 +78,12 @@ module _ (labels : List ℕ) (hyp : Span) where
   no-hyp-put at out e = rw (hyp-none e) (grows-none at out)
 
   -- its label lies from start to stop
-  pub hyp-put : {at mid end stop : ℕ} {before between after : List ℕ} → ¬ (hyp .length ≡ 0) → stop ≡ hyp .start + hyp .length
-      → Put (part (hyp .start) (stop - hyp .start) labels) at mid before between → Put (equalsSign ∷ []) mid end between after
+  pub hyp-put : {at mid end stop byte : ℕ} {before between after : List ℕ} → ¬ (hyp .length ≡ 0) → stop ≡ hyp .start + hyp .length → byte ≡ equalsSign
+      → Put (part (hyp .start) (stop - hyp .start) labels) at mid before between → Put (byte ∷ []) mid end between after
       → Grows (hypPart labels hyp) at end before after
-  hyp-put {stop = stop} h e a b =
+  hyp-put {stop = stop} h e f a b =
       let l : stop - hyp .start ≡ hyp .length = omega arith in
-      rw (hyp-some h) (grows-more (grows-one (rw l at a)) b)
+      rw (hyp-some h, ← f) (grows-more (grows-one (rw l at a)) b)
 
 -- ---- the label, or the referred name
 

@@ -112,7 +112,7 @@ same-length-2 c = c .before .before .close .kept .1 .1 .0 ∙ laid-kept (c .befo
 
 returns : tie.Need-returns Inv-loop μ-loop
 returns c =
-    printed (here (c .before .before .before .before .before .before .before .before .before .before)) (c .before .before .before .before .before .before .before .before .before .before .loop .inv .0) (came-end _ _ _ _ _ _ (c .before .before .before .before .before .before .before .before .next .ensures) (c .before .before .before .before .enum-told .given .1))
+    printed (here (c .before .before .before .before .before .before .before .before .before .before)) (c .before .before .before .before .before .before .before .before .before .before .loop .inv .0) (came-end _ _ _ _ _ _ (c .before .before .before .before .before .before .before .before .next .ensures) (c .before .before .before .before .enum-told .given .1)) (omega arith)
     (c .before .before .before .before .before .before .before .before .before .before .before .before .before .begin2 .ensures .0) (c .before .before .close .ensures)
 
 step-word-requires : tie.Need-step-word-requires Inv-loop μ-loop
@@ -123,7 +123,7 @@ put-step-word-requires c κs =
     let t : Turn = c .before .before in
     let p : Head = head t in (
       c .before .before .before .before .before .before .before .before .before .before .before .before .before .before .before .before .before .before .before .before .before .before .before .before .before .before .before .pre .0,
-      (rw (c .before .step-word .ensures) (word-in (here p) (p .loop .inv .0) (stepped t)), near (here p) (p .loop .inv .0) (p .before .before .before .begin2 .ensures .1)),
+      (word-in (here p) (p .loop .inv .0) (stepped t) (c .before .step-word .ensures), near (here p) (p .loop .inv .0) (p .before .before .before .begin2 .ensures .1)),
     )
 
 loop-less : tie.Need-loop-less Inv-loop μ-loop
@@ -133,7 +133,7 @@ loop-again : tie.Need-loop-again Inv-loop μ-loop
 loop-again c =
     let t : Turn = c .before .before .before .before .before in
     let p : Head = head t in (
-      turn (here p) (p .loop .inv .0) (stepped t) (rw (c .before .before .before .before .step-word .ensures) at (c .before .before .put-step-word .ensures)),
+      turn (here p) (p .loop .inv .0) (stepped t) (c .before .before .before .before .step-word .ensures) (c .before .before .put-step-word .ensures),
       t .before .before .before .before .before .next .kept .1 .1 .0 ∙ p .loop .inv .1,
     )
 

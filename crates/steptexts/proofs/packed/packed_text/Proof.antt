@@ -64,7 +64,7 @@ put-step-word-requires c κs =
     let p : Head = c .before .before .before in
     let r = c .before .before .before .before .before .before .before .before .before .before .before .before .before .before .before .pre .1 in (
       c .before .before .before .before .before .before .before .before .before .before .before .before .before .before .before .pre .0,
-      (rw (c .before .packed-word .ensures) (word-in r (lent p) _ (c .before .before .loop-test .taken)), near r (lent p) _ (p .loop .inv .1) (p .loop .inv .0) (p .before .before .before .begin .ensures .1)),
+      (word-in r (lent p) _ (c .before .before .loop-test .taken) (c .before .packed-word .ensures), near r (lent p) _ (p .loop .inv .1) (p .loop .inv .0) (p .before .before .before .begin .ensures .1)),
     )
 
 add-i : tie.Need-add-i Inv-loop μ-loop
@@ -76,7 +76,7 @@ loop-less c = omega (arith, c .before .before .before .before .before .loop-test
 loop-again : tie.Need-loop-again Inv-loop μ-loop
 loop-again c =
     let p : Head = c .before .before .before .before .before .before in
-    (omega (arith, c .before .before .before .before .before .loop-test .taken), turn (c .before .before .before .before .before .before .before .before .before .before .before .before .before .before .before .before .before .before .pre .1) (lent p) _ (p .loop .inv .1) (rw (c .before .before .before .before .packed-word .ensures) at (c .before .before .put-step-word .ensures)))
+    (omega (arith, c .before .before .before .before .before .loop-test .taken), turn (c .before .before .before .before .before .before .before .before .before .before .before .before .before .before .before .before .before .before .pre .1) (lent p) _ (p .loop .inv .1) (c .before .before .before .before .packed-word .ensures) (c .before .before .put-step-word .ensures))
 
 close-requires : tie.Need-close-requires Inv-loop μ-loop
 close-requires c κs =
@@ -89,7 +89,7 @@ same-length c = c .before .before .close .kept .1 .1 .0 ∙ laid-kept (c .before
 returns : tie.Need-returns Inv-loop μ-loop
 returns c =
     let p : Head = c .before .before .before .before .before in
-    printed (c .before .before .before .before .before .before .before .before .before .before .before .before .before .before .before .before .before .pre .1) (lent p) _ (p .loop .inv .1) (omega (arith, c .before .before .before .before .loop-test .left, p .loop .inv .0)) (p .before .before .before .begin .ensures .0) (c .before .before .close .ensures)
+    printed (c .before .before .before .before .before .before .before .before .before .before .before .before .before .before .before .before .before .pre .1) (lent p) _ (p .loop .inv .1) (omega (arith, c .before .before .before .before .loop-test .left, p .loop .inv .0)) (omega arith) (p .before .before .before .begin .ensures .0) (c .before .before .close .ensures)
 
 pub packed-text-spec : {M : Type 1} → statement M
 packed-text-spec =

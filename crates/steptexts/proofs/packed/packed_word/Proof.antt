@@ -1,5 +1,6 @@
 -- `packed_word` meets its contract: five words are read, and what is looked up for them is the word of that step.
 -- What each reading asks for is required of the step.
+use native.Mathlib.Omega.{arith}
 use borrow.Author.Needs.{needs}
 use Rattle.steptexts.proofs.packed.packed_word.Statement.{statement}
 use Rattle.steptexts.proofs.packed.packed_word.Tie as tie
@@ -11,7 +12,7 @@ shared-slice-read-name-number : tie.Need-shared-slice-read-name-number
 shared-slice-read-name-number c = search needs
 
 name-number-requires : tie.Need-name-number-requires
-name-number-requires c κs = search needs
+name-number-requires c κs = omega (arith, c .before .before .before .before .pre .reference-in)
 
 add-name-number : tie.Need-add-name-number
 add-name-number c = search needs
@@ -23,7 +24,7 @@ shared-slice-read-name-number-2 : tie.Need-shared-slice-read-name-number-2
 shared-slice-read-name-number-2 c = search needs
 
 name-number-requires-2 : tie.Need-name-number-requires-2
-name-number-requires-2 c κs = search needs
+name-number-requires-2 c κs = omega (arith, c .before .before .before .before .before .before .pre .mark-in)
 
 add-hyp-of : tie.Need-add-hyp-of
 add-hyp-of c = search needs

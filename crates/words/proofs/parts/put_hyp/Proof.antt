@@ -1,6 +1,5 @@
 -- `put_hyp` meets its contract: the label is put, then the equals sign behind it.
 -- The span lies inside the label bytes by what is required.
-use mathlib.Core.Path.{refl}
 use native.Mathlib.Omega.{arith}
 use borrow.Author.Needs.{needs}
 use Rattle.words.proofs.PartLaws.{no-hyp-put, hyp-put}
@@ -32,7 +31,7 @@ same-length : tie.Need-same-length
 same-length c = search needs
 
 returns-2 : tie.Need-returns-2
-returns-2 c = hyp-put _ _ (λ z. omega (arith, c .before .before .before .before .before .before .before .before .before .before .if1 .left)) refl (c .before .before .before .before .before .before .put-piece .ensures) (c .before .before .put-byte .ensures)
+returns-2 c = hyp-put _ _ (λ z. omega (arith, c .before .before .before .before .before .before .before .before .before .before .if1 .left)) (omega arith) (omega arith) (c .before .before .before .before .before .before .put-piece .ensures) (c .before .before .put-byte .ensures)
 
 pub put-hyp-spec : {M : Type 1} → statement M
 put-hyp-spec =

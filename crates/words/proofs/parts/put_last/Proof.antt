@@ -1,6 +1,5 @@
 -- `put_last` meets its contract: one piece is put, the label or the referred name.
 -- The span lies inside the label bytes by what is required.
-use mathlib.Core.Path.{refl}
 use native.Mathlib.Omega.{arith}
 use borrow.Author.Needs.{needs}
 use Rattle.words.proofs.PartLaws.{label-put, name-put}
@@ -35,7 +34,7 @@ same-length-2 : tie.Need-same-length-2
 same-length-2 c = search needs
 
 returns-2 : tie.Need-returns-2
-returns-2 c = label-put _ _ _ (omega (arith, c .before .before .before .before .before .before .if1 .left)) refl (c .before .before .put-piece .ensures)
+returns-2 c = label-put _ _ _ (omega (arith, c .before .before .before .before .before .before .if1 .left)) (omega arith) (c .before .before .put-piece .ensures)
 
 pub put-last-spec : {M : Type 1} → statement M
 put-last-spec =
