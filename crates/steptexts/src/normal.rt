@@ -9,8 +9,8 @@ use table::sections::statement_section;
 use walk::normal::Taken;
 use walk::normal::begin;
 use walk::normal::next;
+use words::word::plain_word;
 use words::word::put_step_word;
-use words::word::step_word;
 ghost use mathlib.Core.Path.{_≡_};
 ghost use mathlib.Core.Bool.{false};
 ghost use lib.ListN.{length};
@@ -52,16 +52,7 @@ pub fn normal_text(
             let last = close(layout, line, out);
             return last.end;
         };
-        let word = step_word(
-            statements,
-            hyps,
-            header.theorem,
-            explicit,
-            0,
-            0,
-            statement,
-            hyp,
-        );
+        let word = plain_word(statements, hyps, header.theorem, explicit, statement, hyp);
         line = put_step_word(layout, line, labels, word, out);
         depth = below;
     }

@@ -56,6 +56,22 @@ pub fn step_word(
     }
 }
 
+// The word of a step that has no mark and is no reference.
+pub fn plain_word(
+    statements: &[u32],
+    hyps: &[u32],
+    theorem: StatementNo,
+    explicit: bool,
+    statement: StatementNo,
+    hyp: ParentHyp,
+) -> Word
+    requires { ⌜ StatementIn (now statements) (statement .0) ⌝ }
+    requires { ⌜ HypReady (now statements) (now hyps) (theorem .0) (parentOf hyp) (indexOf hyp) ⌝ }
+    ensures { λ r. ⌜ r ≡ wordOf (now (statements .entry)) (now (hyps .entry)) (theorem .0) explicit 0 0 (statement .0) (parentOf hyp) (indexOf hyp) ⌝ }
+{
+    step_word(statements, hyps, theorem, explicit, 0, 0, statement, hyp)
+}
+
 pub fn word_length(word: Word) -> usize
     requires { ⌜ WordShort word ⌝ }
     ensures { λ r. ⌜ WordLong word r ⌝ }

@@ -115,15 +115,15 @@ returns c =
     printed (here (c .before .before .before .before .before .before .before .before .before .before)) (c .before .before .before .before .before .before .before .before .before .before .loop .inv .0) (came-end _ _ _ _ _ _ (c .before .before .before .before .before .before .before .before .next .ensures) (c .before .before .before .before .enum-told .given .1)) (omega arith)
     (c .before .before .before .before .before .before .before .before .before .before .before .before .before .begin2 .ensures .0) (c .before .before .close .ensures)
 
-step-word-requires : tie.Need-step-word-requires Inv-loop μ-loop
-step-word-requires c κs = word-ready (here (head c)) (head c .loop .inv .0) (stepped c)
+plain-word-requires : tie.Need-plain-word-requires Inv-loop μ-loop
+plain-word-requires c κs = word-ready (here (head c)) (head c .loop .inv .0) (stepped c)
 
 put-step-word-requires : tie.Need-put-step-word-requires Inv-loop μ-loop
 put-step-word-requires c κs =
     let t : Turn = c .before .before in
     let p : Head = head t in (
       c .before .before .before .before .before .before .before .before .before .before .before .before .before .before .before .before .before .before .before .before .before .before .before .before .before .before .before .pre .0,
-      (word-in (here p) (p .loop .inv .0) (stepped t) (c .before .step-word .ensures), near (here p) (p .loop .inv .0) (p .before .before .before .begin2 .ensures .1)),
+      (word-in (here p) (p .loop .inv .0) (stepped t) (c .before .plain-word .ensures), near (here p) (p .loop .inv .0) (p .before .before .before .begin2 .ensures .1)),
     )
 
 loop-less : tie.Need-loop-less Inv-loop μ-loop
@@ -133,7 +133,7 @@ loop-again : tie.Need-loop-again Inv-loop μ-loop
 loop-again c =
     let t : Turn = c .before .before .before .before .before in
     let p : Head = head t in (
-      turn (here p) (p .loop .inv .0) (stepped t) (c .before .before .before .before .step-word .ensures) (c .before .before .put-step-word .ensures),
+      turn (here p) (p .loop .inv .0) (stepped t) (c .before .before .before .before .plain-word .ensures) (c .before .before .put-step-word .ensures),
       t .before .before .before .before .before .next .kept .1 .1 .0 ∙ p .loop .inv .1,
     )
 
@@ -158,7 +158,7 @@ normal-text-spec =
     same-length
     same-length-2
     returns
-    step-word-requires
+    plain-word-requires
     put-step-word-requires
     loop-less
     loop-again)
