@@ -33,7 +33,13 @@ ghost use Rattle.lists.specs.Answers.{written};
 pub const MAX_NORMAL_STEPS: u32 = 1000000;
 
 // How many steps the normal list from QED has, as far as refusal 13 asks; counted in the working slice.
-fn count_steps(entries: &[u32], children: &[u32], n: usize, qed: EntryNo, work: &mut [u32]) -> u32
+pub fn count_steps(
+    entries: &[u32],
+    children: &[u32],
+    n: usize,
+    qed: EntryNo,
+    work: &mut [u32],
+) -> u32
     requires { ⌜ EntriesOk (now entries) (now children) n ⌝ }
     requires { ⌜ (qed .0 < n) × (n ≤ length (now work)) ⌝ }
     ensures { λ r. ⌜ r ≡ cappedSize (graphIn (now (entries .entry)) (now (children .entry))) (qed .0) ⌝ }

@@ -21,9 +21,9 @@ use Rattle.defs.specs.Layout.{Layout, lineRoom, bad8}
 use Rattle.defs.specs.Steps.{Step, isNormal, normalStmts, stepSize, flat}
 use Rattle.defs.specs.Text.{packedOf, labelsOf}
 use Rattle.defs.specs.Order.{used, listed, labelList}
-use Rattle.defs.specs.Refusals.{need32, need16}
+use Rattle.defs.specs.Refusals.{bad12, need32, need16}
 use Rattle.defs.specs.LabelLaws.{count-labels}
-use Rattle.defs.specs.Ranges.{StepFits, packed-steps-fit}
+use Rattle.defs.specs.Ranges.{StepFits, packed-steps-fit, labels-listed}
 use Rattle.lettering.specs.Said.{mostStep, numberOf, SaysAll, ListReady}
 use Rattle.theorem.proofs.Goals.{theorem-ok, list-short}
 use Rattle.theorem.specs.Goal.{InStatements}
@@ -149,6 +149,10 @@ module _ (w b : List ℕ) (ok : tableRefusal w b ≡ 0) (l : Layout) (right : ba
       labels-few : length labels ≤ s
       labels-few = omega (arith, ordered .as-many, ordered .few)
 
+      none-long : bad12 w l ≡ false
+      unfolding bad12 lineRoom
+      none-long = let same : W - 1 ≡ l .width - l .indent = omega arith in rw same at short
+
       -- a step's words are where they were
       steps-held : part (entries w + 1) (stepSize * length steps) ws′ ≡ flat steps
       steps-held =
@@ -177,6 +181,9 @@ module _ (w b : List ℕ) (ok : tableRefusal w b ≡ 0) (l : Layout) (right : ba
             };
             listed-is = listed-is ∙ ordered .as-many;
             labels-in = omega (arith, labels-is, listed-is, ordered .ends, inside);
+            labels-below = all-map (λ k. (k < s) × (labelLength w k ≤ l .width - l .indent)) (λ k. k < s) (λ k h. h .0) (labelsOf w l) (labels-listed w b l ok none-long);
+            few-listed = omega (arith, listed-is, ordered .few);
+            few-steps = omega (arith, steps-is, few-steps w b ok);
             list = rw (labels-is, listed-is)
                 (part-is at (r .count) ws′ (omega (arith, ordered .ends, inside)) labels (sym (ordered .as-many)) (λ i m. ordered .list i (omega (arith, ordered .as-many))));
           }

@@ -2,10 +2,11 @@
 use mathlib.Core.Path.{_≡_}
 use mathlib.Core.Bool.{false}
 use mathlib.Core.List.{List}
-use Prim.Native.Nat.{ℕ, _+_, _*_, _≤_}
+use Prim.Native.Nat.{ℕ, _+_, _*_, _≤_, _<_}
 use lib.ListN.{length}
 use Rattle.laws.specs.Tools.{part}
-use Rattle.defs.specs.Table.{statements, entries, statementWords, mandatory}
+use Rattle.laws.specs.Lists.{All}
+use Rattle.defs.specs.Table.{statements, entries, childRefs, statementWords, mandatory}
 use Rattle.defs.specs.Check.{firstOf, tableRefusal}
 use Rattle.defs.specs.Layout.{Layout, bad8}
 use Rattle.defs.specs.Steps.{stepSize, flat}
@@ -42,6 +43,9 @@ pub record Arrangement (w : List ℕ) (l : Layout) (r : Arranged) (ws : List ℕ
   pub listed-is : r .listed ≡ length (labelsOf w l)
   pub labels-in : r .labels + r .listed ≤ length ws
   pub list : part (r .labels) (r .listed) ws ≡ labelsOf w l
+  pub labels-below : All (λ k. k < statements w) (labelsOf w l)
+  pub few-listed : r .listed ≤ statements w
+  pub few-steps : r .steps ≤ childRefs w + 1
 
 -- unless one of the tests 10 to 12 refuses
 pub record Arranges (w : List ℕ) (l : Layout) (r : Arranged) (ws : List ℕ) : Type 0 where

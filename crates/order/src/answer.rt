@@ -29,7 +29,7 @@ fn refused(number: u32) -> WrittenTwo
 }
 
 // Any ending after the work has begun leaves both working slices zero.
-fn wipe(work: &mut [u32], sums: &mut [u16])
+pub fn wipe(work: &mut [u32], sums: &mut [u16])
     ensures { λ _. ⌜ (now (work .exit) ≡ zeroed (now (work .entry))) × (now (sums .exit) ≡ zeroed (now (sums .entry))) ⌝ }
 {
     fill(work, 0);
