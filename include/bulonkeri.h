@@ -84,6 +84,13 @@ uint32_t bulonkeri_letters(const uint32_t *words, size_t words_length, const uin
                            uint16_t *sums, size_t sums_length, uint32_t *list, size_t list_length,
                            uint8_t *letters, size_t letters_length, uint64_t *written_list, uint64_t *written_letters);
 
+/* The text of a table: style 0 compressed, 1 normal, 2 packed, 3 explicit, 4 packed explicit. `work` has at least 8 * (entries + child
+ * references + statements + 1) words; style 0 also asks for `sums`, at least (statements + 1) * (width - indent + 2). Nothing is written
+ * unless all of the text fits, and no byte follows its last word `$.`. Tests 1 to 9, 14, 10 to 12 (style 0), 13 (styles 1 and 3), 15. */
+uint32_t bulonkeri_text(const uint32_t *words, size_t words_length, const uint8_t *labels, size_t labels_length,
+                        uint32_t style, uint32_t width, uint32_t indent, uint32_t first, uint32_t *work, size_t work_length,
+                        uint16_t *sums, size_t sums_length, uint8_t *out, size_t out_length, uint64_t *written);
+
 /* The step list, five words a step, that letters with their label list spell. Tests 1 to 7, 10, 16 (a list item that is no statement,
  * is in the theorem's list, or stands twice), 17, 15. No letters give no steps. */
 uint32_t bulonkeri_decode(const uint32_t *words, size_t words_length, const uint8_t *labels, size_t labels_length,

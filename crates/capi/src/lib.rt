@@ -5,7 +5,7 @@ ghost use mathlib.Core.Bool.{true, false};
 ghost use mathlib.Core.List.{[], _∷_};
 ghost use mathlib.Core.Path.{_≡_};
 ghost use Rattle.defs.specs.Check.{tableRefusal};
-ghost use Rattle.defs.specs.Outcome.{answerOne, answerTwo, parentsOutcome, distancesOutcome, stepListOutcome, lettersOutcome};
+ghost use Rattle.defs.specs.Outcome.{answerOne, answerTwo, parentsOutcome, distancesOutcome, stepListOutcome, lettersOutcome, textOutcome};
 ghost use Rattle.defs.specs.Decode.{decodeOutcome};
 ghost use Rattle.defs.specs.Replay.{replayOutcome};
 
@@ -107,6 +107,33 @@ pub extern "C" fn bulonkeri_letters(
     let answer = order::label_letters(words, labels, layout, work, sums, list, letters);
     *written_list = answer.first as u64;
     *written_letters = answer.second as u64;
+    answer.number
+}
+
+#[no_mangle]
+pub extern "C" fn bulonkeri_text(
+    words: &[u32],
+    labels: &[u8],
+    style: u32,
+    width: u32,
+    indent: u32,
+    first: u32,
+    work: &mut [u32],
+    sums: &mut [u16],
+    out: &mut [u8],
+    written: &mut u64,
+) -> u32
+    ensures { λ r. ⌜ answerOne r (now (written .exit)) (now (work .exit) ∷ now (sums .exit) ∷ []) (now (out .exit))
+        ≡ textOutcome (now (words .entry)) (now (labels .entry)) style (record { width = width; indent = indent; first = first })
+        (now (work .entry)) (now (sums .entry)) (now (out .entry)) ⌝ }
+{
+    let layout = Layout {
+        width,
+        indent,
+        first,
+    };
+    let answer = text::text(words, labels, style, layout, work, sums, out);
+    *written = answer.length as u64;
     answer.number
 }
 
