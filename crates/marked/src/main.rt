@@ -1,5 +1,7 @@
-// Document 01's table E, and E plus an unreachable entry, through the code: parents, distances, the four step lists, and the packed
-// list read back. Crate defs proves what the definitions give for these tables; here the code is run, and what it prints is stored.
+// Document 01's table E, and E plus an unreachable entry, through the code: parents, distances, the four step lists, the letters read
+// back, label list and letters, the five texts; then its other marked cases and run values. Crate defs proves what the definitions
+// give for the marked cases; here the code is run, and what it prints is stored.
+use layout::Layout;
 use libc::STDOUT_FILENO;
 
 // `wa` floating, `ha` essential, `op` (`wx`, `wy`), `wx`, `wy` floating, `hx` essential, `ru` (`wx`, `hx`), `th` (`wa`, `ha`);
@@ -211,6 +213,17 @@ fn print_distances(distances: &[u16], count: usize) {
     print(b"\n");
 }
 
+// Those from a place on.
+fn print_from(numbers: &[u16], start: usize) {
+    let mut i = start;
+    while i < numbers.len() {
+        print(b" ");
+        io::print_decimal(STDOUT_FILENO, wide_distance(numbers[i]));
+        i += 1;
+    }
+    print(b"\n");
+}
+
 // The number of an answer and the length that it wrote.
 fn print_answer(number: u32, length: usize) {
     print(b" answer ");
@@ -281,6 +294,130 @@ fn show_reading(words: &[u32]) {
     print_numbers(&children, read.second);
 }
 
+// Bytes up to a length; past the end of the slice nothing is printed.
+fn print_bytes(bytes: &[u8], count: usize) {
+    if count <= bytes.len() {
+        print(&bytes[..count]);
+    }
+    print(b"\n");
+}
+
+fn show_letters(words: &[u32]) {
+    let mut work = [0u32; 256];
+    let mut sums = [0u16; 675];
+    let mut list = [0u32; 8];
+    let mut letters = [0u8; 64];
+    let answer = order::label_letters(
+        words,
+        &LABELS,
+        Layout::standard(),
+        &mut work,
+        &mut sums,
+        &mut list,
+        &mut letters,
+    );
+    print(b"labels");
+    print_answer(answer.number, answer.first);
+    print_numbers(&list, answer.first);
+    print(b"letters");
+    print_answer(answer.number, answer.second);
+    print(b" ");
+    print_bytes(&letters, answer.second);
+}
+
+fn show_text(words: &[u32], labels: &[u8], style: u32, layout: Layout) {
+    let mut work = [0u32; 256];
+    let mut sums = [0u16; 675];
+    let mut out = [0u8; 256];
+    let answer = text::text(words, labels, style, layout, &mut work, &mut sums, &mut out);
+    print(b"text");
+    print_answer(answer.number, answer.length);
+    print(b"\n");
+    print_bytes(&out, answer.length);
+}
+
+fn show_texts(words: &[u32]) {
+    show_text(words, &LABELS, 0, Layout::standard());
+    show_text(words, &LABELS, 1, Layout::standard());
+    show_text(words, &LABELS, 2, Layout::standard());
+    show_text(words, &LABELS, 3, Layout::standard());
+    show_text(words, &LABELS, 4, Layout::standard());
+    let narrow = Layout {
+        width: 16,
+        indent: 6,
+        first: 0,
+    };
+    show_text(words, &LABELS, 0, narrow);
+}
+
+// 19 is `T`, 20 `UA`, 119 `YT`, 120 `UUA`.
+fn show_code(v: u32) {
+    let mut out = [0u8; 13];
+    let end = letters::code::put_code(v, 0, &mut out);
+    print(b"code ");
+    print_bytes(&out, end);
+}
+
+// Costs 5, 3, 4, 2 with room 7 choose the second and third: their places end the sums.
+fn show_choice() {
+    let costs = [5u32, 3, 4, 2];
+    let block = [0u32, 1, 2, 3];
+    let mut sums = [0u16; 40];
+    let choice = choice::choose(&costs, &block, 7, &mut sums);
+    print(b"chosen, of total ");
+    io::print_decimal(STDOUT_FILENO, choice.total as u64);
+    print(b":");
+    print_from(&sums, choice.start);
+}
+
+// A table of one entry, whose label has 73 or 74 bytes; the theorem's label is the last byte.
+fn show_long(length: u32, labels: &[u8]) {
+    let words = [
+        2,
+        0,
+        1,
+        0,
+        10,
+        20,
+        20,
+        23,
+        1,
+        0,
+        0,
+        0,
+        length,
+        0,
+        0,
+        0,
+        length,
+        1,
+        0,
+        0,
+        0,
+        0,
+        0u32,
+    ];
+    show_text(&words, labels, 0, Layout::standard());
+}
+
+fn show_others() {
+    show_code(19);
+    show_code(20);
+    show_code(119);
+    show_code(120);
+    show_choice();
+    let mut labels = [b'a'; 75];
+    labels[73] = b't';
+    show_long(73, &labels[..74]);
+    labels[73] = b'a';
+    labels[74] = b't';
+    show_long(74, &labels);
+    let no_entry = [1, 0, 0, 0, 10, 15, 15, 15, 0, 0, 0, 0, 1, 0, 0u32];
+    print(b"n = 0: ");
+    io::print_decimal(STDOUT_FILENO, table_check::check(&no_entry, b"t") as u64);
+    print(b"\n");
+}
+
 fn show(words: &[u32]) {
     show_parents(words);
     show_distances(words);
@@ -289,6 +426,8 @@ fn show(words: &[u32]) {
     show_normal(words, true);
     show_packed(words, true);
     show_reading(words);
+    show_letters(words);
+    show_texts(words);
 }
 
 fn main() {
@@ -296,4 +435,6 @@ fn main() {
     show(&TABLE_E);
     print(b"E plus unreachable op(2,3)\n");
     show(&TABLE_E2);
+    print(b"others\n");
+    show_others();
 }
