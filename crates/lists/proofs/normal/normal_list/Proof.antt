@@ -1,3 +1,5 @@
+-- `normal_list` meets its contract: each return is one law of AnswerLaws, at the test that it stands under.
+-- The counted steps are the length of the list where they are few enough (`few`, `long`).
 use mathlib.Core.Path.{_≡_, refl, sym, ap, _∙_}
 use mathlib.Core.Bool.{Bool, false}
 use mathlib.Core.List.{List}

@@ -1,3 +1,5 @@
+-- `packed_list` meets its contract: each return is one law of AnswerLaws, at the test that it stands under.
+-- What the walk left in the working slice, `packed`, is named once, and the later answers read it.
 use mathlib.Core.Path.{_≡_, refl, sym, ap, _∙_}
 use mathlib.Core.List.{List}
 use Prim.Native.Nat.{ℕ, _+_, _-_, _≤_, _<_}
