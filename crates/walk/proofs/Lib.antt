@@ -3,3 +3,4 @@ mod StepLaws
 mod PackedLaws
 mod NormalLaws
 mod MarkLaws
+mod BeginLaws

@@ -1,57 +1,74 @@
 // Packed walk from QED: an entry without a mark lists its children in order, then itself. The working slice holds how many marks
-// are given, then one word an entry (0 plain, 1 to be marked, m + 1 marked m), then the steps. Each function is told where the next step
-// goes, and answers where the one after goes.
+// are given, then one word an entry (its counted parents, or its mark: crate::marks), then the steps. Each function is told where the next
+// step goes, and answers where the one after goes.
 use crate::hyps::ParentHyp;
 use crate::hyps::child_hyp;
-use crate::marks::mark_words;
+use crate::marks::COUNTS;
+use crate::marks::MARKED;
+use crate::marks::gets_mark;
+use crate::marks::mark_in;
 use crate::steps::STEP_WORDS;
 use crate::steps::put_step;
+use counts::parents::count_parents;
 use table::EntryNo;
-use table::StatementNo;
 use table::entries::child;
 use table::entries::child_count;
 use table::entries::child_start;
 use table::entries::statement_of;
 use table::limits::ENTRY_WORDS;
+use table::numbers::wide;
 ghost use mathlib.Core.Path.{_≡_};
-ghost use Prim.Native.Nat.{_<_, _≤_};
 ghost use lib.ListN.{length};
-ghost use Rattle.defs.specs.Table.{word, childCountIn};
-ghost use Rattle.walk.specs.Entries.{size};
+ghost use lib.Dec.{eqb};
+ghost use Rattle.laws.specs.Tools.{pick};
+ghost use Rattle.defs.specs.Table.{word, entryStmtIn, childCountIn};
+ghost use Rattle.table.specs.Records.{EntryIn};
+ghost use Rattle.walk.specs.Marks.{getsBy};
 ghost use Rattle.walk.specs.Hyps.{parentOf, indexOf};
-ghost use Rattle.walk.specs.Packed.{entryAt, held, refers, finishes, stepsFrom, Room, Ready, Listed, Packing, Begun, Packable, Packed};
+ghost use Rattle.walk.specs.Packed.{entryAt, held, single, finishes, Room, Ready, Listed, Countable, Counted, Packable, Packed};
 
-// An entry met again with a mark is a back reference.
-fn refer(work: &mut [u32], e: EntryNo, hyp: ParentHyp, end: usize) -> usize
+// A back reference has no statement.
+fn statement_unless(mark: u32, statement: u32) -> u32
+    ensures { λ r. ⌜ r ≡ pick (eqb mark 0) statement 0 ⌝ }
+{
+    if mark == 0 { statement } else { 0 }
+}
+
+// An entry that lists no children first is one step. Met again with a mark it is a back reference, childless it lists itself.
+fn list_single(entries: &[u32], work: &mut [u32], e: EntryNo, hyp: ParentHyp, end: usize) -> usize
+    requires { ⌜ EntryIn (now entries) (e .0) ⌝ }
     requires { ⌜ Room (e .0) hyp (held (now work) end) ⌝ }
-    requires { ⌜ 1 < word (now work) (entryAt (e .0)) ⌝ }
-    ensures { λ r. ⌜ held (now (work .exit)) r ≡ refers (e .0) (parentOf hyp) (indexOf hyp) (held (now (work .entry)) end) ⌝ }
+    ensures { λ r. ⌜ held (now (work .exit)) r ≡ single (e .0) (entryStmtIn (now (entries .entry)) (e .0)) (parentOf hyp) (indexOf hyp) (held (now (work .entry)) end) ⌝ }
 {
     let at = e.0 as usize + 1;
-    let mark = work[at] - 1;
-    put_step(work, end, mark, 0, 0, hyp);
+    let mark = mark_in(work[at]);
+    let statement = statement_of(entries, e);
+    put_step(work, end, mark, 0, statement_unless(mark, statement.0), hyp);
     end + STEP_WORDS
 }
 
 // After its children an entry lists itself. If it has children and more than one counted parent it gets the next mark from 1.
-fn finish(work: &mut [u32], e: EntryNo, statement: StatementNo, hyp: ParentHyp, end: usize) -> usize
+fn finish(entries: &[u32], work: &mut [u32], e: EntryNo, hyp: ParentHyp, end: usize) -> usize
+    requires { ⌜ EntryIn (now entries) (e .0) ⌝ }
     requires { ⌜ Room (e .0) hyp (held (now work) end) ⌝ }
-    ensures { λ r. ⌜ held (now (work .exit)) r ≡ finishes (e .0) (statement .0) (parentOf hyp) (indexOf hyp) (held (now (work .entry)) end) ⌝ }
+    ensures { λ r. ⌜ held (now (work .exit)) r ≡ finishes (getsBy (childCountIn (now (entries .entry)) (e .0)) (word (now (work .entry)) (entryAt (e .0))))
+        (e .0) (entryStmtIn (now (entries .entry)) (e .0)) (parentOf hyp) (indexOf hyp) (held (now (work .entry)) end) ⌝ }
 {
     let at = e.0 as usize + 1;
-    if work[at] == 0 {
-        put_step(work, end, 0, 0, statement.0, hyp);
+    let statement = statement_of(entries, e);
+    if gets_mark(entries, e, work[at]) {
+        let mark = work[0] + 1;
+        work[0] = mark;
+        work[at] = MARKED + mark;
+        put_step(work, end, 0, mark, statement.0, hyp);
         return end + STEP_WORDS;
     }
-    let mark = work[0] + 1;
-    work[0] = mark;
-    work[at] = mark + 1;
-    put_step(work, end, 0, mark, statement.0, hyp);
+    put_step(work, end, 0, 0, statement.0, hyp);
     end + STEP_WORDS
 }
 
-// The children of an entry in order, each with what lies below it: an entry met again with a mark is a back reference, any other lists
-// its own children, then itself. The recursion goes to falling entry numbers, since children lie below their parents.
+// The children of an entry in order, each with what lies below it. The recursion goes to falling entry numbers, since children lie below
+// their parents. One comparison tells an entry that lists its own children first, which has some and no mark, from any other.
 pub fn list_children(
     entries: &[u32],
     children: &[u32],
@@ -72,26 +89,23 @@ pub fn list_children(
         let c = child(children, first + k);
         let hyp = child_hyp(entries, explicit, e, k as u32);
         let at = c.0 as usize + 1;
-        if 1 < work[at] {
-            end = refer(work, c, hyp, end);
+        if wide(work[at]) < COUNTS * child_count(entries, c) {
+            end = list_children(entries, children, work, explicit, c, end);
+            end = finish(entries, work, c, hyp, end);
         } else {
-            if 0 < child_count(entries, c) {
-                end = list_children(entries, children, work, explicit, c, end);
-            }
-            end = finish(work, c, statement_of(entries, c), hyp, end);
+            end = list_single(entries, work, c, hyp, end);
         }
         k += 1;
     }
     end
 }
 
-// No marks are given, and each entry's word says whether it is to be marked. The steps start after these words.
-fn begin(entries: &[u32], children: &[u32], work: &mut [u32], start: usize)
-    requires { ⌜ Packing (now entries) (now children) ⌝ }
-    requires { ⌜ (start ≡ stepsFrom (size (now entries))) × (start ≤ length (now work)) ⌝ }
-    ensures { λ _. ⌜ Begun (now (entries .entry)) (now (children .entry)) (held (now (work .exit)) start) ⌝ }
+// No marks are given, and each entry's word is its number of parents. The steps start after these words.
+fn begin(children: &[u32], work: &mut [u32], start: usize)
+    requires { ⌜ Countable (now children) start (length (now work)) ⌝ }
+    ensures { λ _. ⌜ Counted (now (children .entry)) start (now (work .exit)) ⌝ }
 {
-    mark_words(entries, children, &mut work[1..start]);
+    count_parents(children, &mut work[1..start]);
     work[0] = 0;
 }
 
@@ -107,7 +121,7 @@ pub fn pack(
     ensures { λ r. ⌜ Packed (now (entries .entry)) (now (children .entry)) explicit (qed .0) (held (now (work .exit)) r) ⌝ }
 {
     let start = entries.len() / ENTRY_WORDS + 1;
-    begin(entries, children, work, start);
+    begin(children, work, start);
     let end = list_children(entries, children, work, explicit, qed, start);
-    finish(work, qed, statement_of(entries, qed), ParentHyp::Root, end)
+    finish(entries, work, qed, ParentHyp::Root, end)
 }

@@ -2,24 +2,25 @@
 -- at each child. The loop's invariant: the words hold that walk after the first k children. Assumes nothing.
 use mathlib.Core.Path.{_≡_, refl, sym, ap, ap₂, subst, _∙_}
 use mathlib.Core.Logic.{⊎-elim}
-use Prim.Native.Nat.{ℕ, _+_, _-_, _<_, _≤_}
+use Prim.Native.Nat.{ℕ, _+_, _*_, _-_, _<_, _≤_}
 use native.Mathlib.Omega.{arith}
 use lib.ListN.{length}
 use borrow.Fn.Kinds.{In}
 use borrow.Fn.PlainCycle.{Measures, is, falls, and}
 use Rattle.defs.specs.Table.{word, maxChildRefs, childStartIn, childCountIn}
-use Rattle.walk.specs.Packed.{Held, held, Visitable, Ready, Listed}
-use Rattle.walk.proofs.PackedLaws.{Child, no-children, room-met, visited-met, child-visitable, next-child, room-last, visited-new}
+use Rattle.walk.specs.Marks.{countsBelow, marked}
+use Rattle.walk.specs.Packed.{Held, held, entryAt, Visitable, Ready, Listed}
+use Rattle.walk.proofs.PackedLaws.{Child, no-children, child-visitable, next-child, room-last, visited-new, room-single, visited-single}
 use Rattle.walk.proofs.packed.list_children.Reads as list-children
 use Rattle.walk.proofs.packed.list_children.Kinds as list-children-kinds
 use Rattle.walk.proofs.packed.+list_children.Lts-list_children as lts
 use Rattle.table.proofs.entries.child.Reads as child-reads
 use Rattle.table.proofs.entries.child_count.Reads as child-count-reads
 use Rattle.table.proofs.entries.child_start.Reads as child-start-reads
-use Rattle.table.proofs.entries.statement_of.Reads as statement-of-reads
+use Rattle.table.proofs.numbers.wide.Reads as wide-reads
 use Rattle.walk.proofs.hyps.child_hyp.Reads as child-hyp-reads
 use Rattle.walk.proofs.packed.finish.Reads as finish-reads
-use Rattle.walk.proofs.packed.refer.Reads as refer-reads
+use Rattle.walk.proofs.packed.list_single.Reads as list-single-reads
 use Rattle.walk.proofs.packed.+list_children.{statement}
 use Rattle.walk.proofs.packed.+list_children.Tie.{close}
 
@@ -50,18 +51,18 @@ calls t = (
   child-reads.Learnt,
   child-hyp-reads.Asked,
   child-hyp-reads.Learnt,
-  refer-reads.Asked,
-  refer-reads.Learnt,
+  wide-reads.Asked,
+  wide-reads.Learnt,
   children-below t,
   list-children.Post,
-  statement-of-reads.Asked,
-  statement-of-reads.Learnt,
   finish-reads.Asked,
   finish-reads.Learnt,
+  list-single-reads.Asked,
+  list-single-reads.Learnt,
 )
 
 module _ (t : ℕ) where
-  -- the places that the answers speak of: the function's entry, the loop's head, a turn's child, and where the child's own step comes
+  -- the places that the answers speak of: the function's entry, the loop's head, a turn's child, and its comparison
   abbrev Start : Type 0
   Start = lts.Start (calls t) (children-at t) list-children.Post Inv μ
 
@@ -71,14 +72,17 @@ module _ (t : ℕ) where
   abbrev Turn : Type 0
   Turn = lts.After-child-hyp (calls t) (children-at t) list-children.Post Inv μ
 
-  abbrev Own : Type 0
-  Own = lts.Joined2 (calls t) (children-at t) list-children.Post Inv μ
+  abbrev Compared : Type 0
+  Compared = lts.After-child-count2 (calls t) (children-at t) list-children.Post Inv μ
 
   abbrev start : Head → Start
   start p = p .before .before .before .before .before .before
 
   abbrev head : Turn → Head
   head x = x .before .before .before
+
+  abbrev turn : Compared → Turn
+  turn d = d .before .before .before .before
 
   -- what the words hold at the function's entry, and at the loop's head
   abbrev from : Start → Held
@@ -130,23 +134,26 @@ module _ (t : ℕ) where
       let v = ready s .visitable in
       omega (arith, child-of x .child-is, v .entries .ok .below (s .args .e .0) (head x .loop .k) (v .inside) (child-of x .more))
 
-  -- where its own step comes, its children are listed
-  record Below (j : Own) : Type 0 where
-    same : length (j .if2 .work) ≡ length (head (j .before .before .before .before .before) .loop .work)
-    listed : Listed (start (head (j .before .before .before .before .before)) .args .entries .now) (start (head (j .before .before .before .before .before)) .args .children .now) (start (head (j .before .before .before .before .before)) .args .explicit) (j .before .before .before .before .before .before .child .result .0)
-        (childCountIn (start (head (j .before .before .before .before .before)) .args .entries .now) (j .before .before .before .before .before .before .child .result .0)) (here (head (j .before .before .before .before .before))) (held (j .if2 .work) (j .if2 .end))
+  -- what is compared: its word, and its number of children
+  record Sides (d : Compared) : Type 0 where
+    word-is : d .before .wide .result ≡ word (head (turn d) .loop .work) (entryAt (turn d .before .child .result .0))
+    count-is : d .child-count2 .result ≡ childCountIn (start (head (turn d)) .args .entries .now) (turn d .before .child .result .0)
+    few : d .child-count2 .result ≤ maxChildRefs
 
-  listed-below : (j : Own) → Below j
-  listed-below j =
-      let p = head (j .before .before .before .before .before) in
-      let s = start p in
-      let c = j .before .before .before .before .before .before .child .result .0 in
-      let Says : Held → Type 0 = λ h. Listed (s .args .entries .now) (s .args .children .now) (s .args .explicit) c (childCountIn (s .args .entries .now) c) (here p) h in
-      ⊎-elim
-      (λ w. record { same = ap length (w .5) ∙ w .2 .kept .1 .1 .0; listed = subst Says (sym (ap₂ held (w .5) (w .6))) (w .2 .ensures) })
-      (λ w. let none : childCountIn (s .args .entries .now) c ≡ 0 = omega (arith, j .before .child-count2 .ensures, w .0 .left) in
-      record { same = ap length (w .1); listed = subst Says (sym (ap₂ held (w .1) (w .2))) (rw none (no-children _ _ _ _ _)) })
-      (j .if2 .came)
+  sides : (d : Compared) → Sides d
+  sides d =
+      let v = visitable (turn d) in
+      let count = d .child-count2 .ensures in
+      record { word-is = d .before .wide .ensures; count-is = count; few = omega (arith, v .entries .ok .inside _ (v .inside), v .entries .ok .few-children) }
+
+  -- an entry that lists its children first has no mark yet
+  unmarked : (d : Compared) → d .before .wide .result < countsBelow * d .child-count2 .result → word (head (turn d) .loop .work) (entryAt (turn d .before .child .result .0)) ≤ marked
+  unmarked d less = omega (arith, sides d, less)
+
+  -- any other is one step
+  once : (d : Compared) → countsBelow * d .child-count2 .result ≤ d .before .wide .result
+      → countsBelow * childCountIn (start (head (turn d)) .args .entries .now) (turn d .before .child .result .0) ≤ word (head (turn d) .loop .work) (entryAt (turn d .before .child .result .0))
+  once d more = omega (arith, sides d, more)
 
   child-start-requires : lts.Need-child-start-requires (calls t) (children-at t) list-children.Post Inv μ
   child-start-requires c κs = omega (arith, ready (c .before .before .before) .visitable .inside)
@@ -175,52 +182,60 @@ module _ (t : ℕ) where
   add-at : lts.Need-add-at (calls t) (children-at t) list-children.Post Inv μ
   add-at c = omega arith
 
-  mul-if1 : lts.Need-mul-if1 (calls t) (children-at t) list-children.Post Inv μ
-  mul-if1 c = omega (arith, visitable (c .before) .inside, visitable (c .before) .long)
+  mul-wide : lts.Need-mul-wide (calls t) (children-at t) list-children.Post Inv μ
+  mul-wide c = omega (arith, visitable (c .before) .inside, visitable (c .before) .long)
 
-  slice-read-if1 : lts.Need-slice-read-if1 (calls t) (children-at t) list-children.Post Inv μ
-  slice-read-if1 c = omega (arith, visitable (c .before .before) .inside, visitable (c .before .before) .long)
+  slice-read-wide : lts.Need-slice-read-wide (calls t) (children-at t) list-children.Post Inv μ
+  slice-read-wide c = omega (arith, visitable (c .before .before) .inside, visitable (c .before .before) .long)
 
-  refer-requires : lts.Need-refer-requires (calls t) (children-at t) list-children.Post Inv μ
-  refer-requires c κs = (room-met _ _ _ _ _ _ (visitable (c .before .before .before .before)) (c .before .if1 .taken), c .before .if1 .taken)
+  wide-requires : lts.Need-wide-requires (calls t) (children-at t) list-children.Post Inv μ
+  wide-requires c κs = tt
 
   child-count-requires-2 : lts.Need-child-count-requires-2 (calls t) (children-at t) list-children.Post Inv μ
   child-count-requires-2 c κs = omega (arith, visitable (c .before .before .before) .inside)
 
+  mul-if1 : lts.Need-mul-if1 (calls t) (children-at t) list-children.Post Inv μ
+  mul-if1 c = omega (arith, sides c)
+
   list-children-requires : lts.Need-list-children-requires (calls t) (children-at t) list-children.Post Inv μ
   list-children-requires c κs =
-      let x = c .before .before .before .before .before .before in
-      (subst (λ (n : ℕ). x .before .child .result .0 < n) (start (head x) .pre .0) (below x), record { hyp = x .child-hyp .result; visitable = visitable x; new = c .before .before .before .if1 .left })
-
-  statement-of-requires : lts.Need-statement-of-requires (calls t) (children-at t) list-children.Post Inv μ
-  statement-of-requires c κs = omega (arith, visitable (c .before .before .before .before .before .before) .inside)
+      let d = c .before .before in
+      let x = turn d in
+      (subst (λ (n : ℕ). x .before .child .result .0 < n) (start (head x) .pre .0) (below x), record { hyp = x .child-hyp .result; visitable = visitable x; new = unmarked d (c .before .if1 .taken) })
 
   finish-requires : lts.Need-finish-requires (calls t) (children-at t) list-children.Post Inv μ
   finish-requires c κs =
-      let j = c .before .before in
-      room-last _ _ _ _ _ _ (visitable (j .before .before .before .before .before)) (j .before .before .if1 .left) _ _ (listed-below j .same) (listed-below j .listed) refl
+      let d = c .before .before .before .before .before .before in
+      let x = turn d in
+      (omega (arith, visitable x .inside), room-last _ _ _ _ _ _ (visitable x) (unmarked d (c .before .before .before .before .before .if1 .taken)) _ _ (c .before .before .before .list-children .kept .1 .1 .0) (c .before .before .before .list-children .ensures) refl)
+
+  list-single-requires : lts.Need-list-single-requires (calls t) (children-at t) list-children.Post Inv μ
+  list-single-requires c κs =
+      let d = c .before .before in
+      (omega (arith, visitable (turn d) .inside), room-single _ _ _ _ _ _ (visitable (turn d)) (once d (c .before .if1 .left)))
 
   add-k : lts.Need-add-k (calls t) (children-at t) list-children.Post Inv μ
-  add-k c = omega (arith, inside (c .before .before .before .before .before .before))
+  add-k c = omega (arith, inside (head (turn (c .before))))
 
   loop-less : lts.Need-loop-less (calls t) (children-at t) list-children.Post Inv μ
   loop-less c = omega arith
 
   loop-again : lts.Need-loop-again (calls t) (children-at t) list-children.Post Inv μ
   loop-again c =
-      let x = c .before .before .before in
+      let d = c .before in
+      let x = turn d in
       let p = head x in
       let s = start p in
       let more = next-child _ _ _ _ _ _ (ready s .visitable) (ready s .new) (p .loop .k) (here p) (p .loop .inv .1 .0) (p .loop .inv .1 .1) _ _ (child-of x) in (
         omega arith,
         ⊎-elim
             (λ w. (
-              ap length (w .5) ∙ w .2 .kept .0 ∙ p .loop .inv .1 .0,
-              more _ (visited-met _ _ _ _ _ _ (visitable x) (w .0 .taken) _ (ap₂ held (w .5) (w .6) ∙ w .2 .ensures)),
+              ap length (w .9) ∙ w .6 .kept .1 .0 ∙ w .2 .kept .1 .1 .0 ∙ p .loop .inv .1 .0,
+              more _ (visited-new _ _ _ _ _ _ (visitable x) (unmarked d (w .0 .taken)) _ _ (w .2 .kept .1 .1 .0) (w .2 .ensures) refl _ (ap₂ held (w .9) (w .10) ∙ w .6 .ensures)),
             ))
-            (λ w. let j : Own = record { before = record { before = record { before = c .before; if1 = w .0 }; child-count2 = w .1 }; if2 = w .2 } in (
-              ap length (w .8) ∙ w .5 .kept .0 ∙ listed-below j .same ∙ p .loop .inv .1 .0,
-              more _ (visited-new _ _ _ _ _ _ (visitable x) (w .0 .left) _ _ (listed-below j .same) (listed-below j .listed) refl _ _ (w .4 .ensures) (ap₂ held (w .8) (w .9) ∙ w .5 .ensures)),
+            (λ w. (
+              ap length (w .5) ∙ w .2 .kept .1 .0 ∙ p .loop .inv .1 .0,
+              more _ (visited-single _ _ _ _ _ _ (visitable x) (once d (w .0 .left)) _ (ap₂ held (w .5) (w .6) ∙ w .2 .ensures)),
             ))
             (c .if1 .came),
       )
@@ -246,13 +261,14 @@ pub +list-children-spec : {M : Type 1} → statement M
     (child-hyp-requires t)
     (cast-at t)
     (add-at t)
-    (mul-if1 t)
-    (slice-read-if1 t)
-    (refer-requires t)
+    (mul-wide t)
+    (slice-read-wide t)
+    (wide-requires t)
     (child-count-requires-2 t)
+    (mul-if1 t)
     (list-children-requires t)
-    (statement-of-requires t)
     (finish-requires t)
+    (list-single-requires t)
     (add-k t)
     (loop-less t)
     (loop-again t)
