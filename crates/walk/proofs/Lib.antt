@@ -2,5 +2,4 @@
 mod StepLaws
 mod PackedLaws
 mod NormalLaws
-mod MarkLaws
 mod BeginLaws

@@ -21,7 +21,7 @@ use Rattle.defs.specs.Laws.{flat-append, flat-length}
 use Rattle.defs.specs.Sections.{EntriesOk, child-at}
 use Rattle.lengths.specs.Bound.{Grown, longer, refer-one, visit-grows, afterChildren, children-none, children-next, visit-met, visit-new, child-within, children-within, children-room, child-depth}
 use Rattle.walk.specs.Entries.{size, Entries, kids-length, kid-below, entries-fall}
-use Rattle.walk.specs.Marks.{countsBelow, marked, getsBy}
+use Rattle.walk.specs.Marks.{countsBelow, marked}
 use Rattle.walk.specs.Hyps.{parentOf, indexOf}
 use Rattle.walk.specs.Steps.{step, withStep}
 use Rattle.walk.specs.Packed.{Held, held, entryAt, stepsFrom, single, finishes, Room, Stands, Fits, visitFrom, Visitable, Ready, Listed, Visited, walkStart, Packing, Begun, Packable, Packed}
@@ -42,11 +42,9 @@ module _ (gets : Bool) (e statement parent index : ℕ) (h : Held) where
   finishes-marked z = rw z
 
 -- that of a childless entry is its one step
-single-own : (e statement parent index : ℕ) (h : Held) (children : ℕ) → word (h .words) (entryAt e) - marked ≡ 0 → children ≡ 0
-    → single e statement parent index h ≡ finishes (getsBy children (word (h .words) (entryAt e))) e statement parent index h
-unfolding single getsBy
-single-own e statement parent index h children plain none =
-    rw (plain, finishes-plain _ e statement parent index h (ap (λ (k : ℕ). ltb 0 k && ltb 1 (word (h .words) (entryAt e))) none))
+single-own : (e statement parent index : ℕ) (h : Held) → word (h .words) (entryAt e) - marked ≡ 0 → single e statement parent index h ≡ finishes false e statement parent index h
+unfolding single
+single-own e statement parent index h plain = rw (plain, finishes-plain false e statement parent index h refl)
 
 and-second : (a b : Bool) → (a && b) ≡ true → b ≡ true
 and-second true b e = e
@@ -189,9 +187,12 @@ module _ (es cs : List ℕ) (explicit : Bool) (e : ℕ) (p : ParentHyp) (h : Hel
   few : n ≤ 8192
   few = ok .few
 
-  -- its word says whether it gets a mark
-  gets-is : (counts : List ℕ) (h₁ : Held) (t : Walk) → Stands g counts n h₁ t → getsBy (childCountIn es e) (word (h₁ .words) (entryAt e)) ≡ getsMark g counts e
-  unfolding getsBy getsMark
+  -- its children and its word say whether it gets a mark
+  abbrev gets : Held → Bool
+  gets h₁ = ltb 0 (childCountIn es e) && ltb 1 (word (h₁ .words) (entryAt e))
+
+  gets-is : (counts : List ℕ) (h₁ : Held) (t : Walk) → Stands g counts n h₁ t → gets h₁ ≡ getsMark g counts e
+  unfolding getsMark
   gets-is counts h₁ t st =
       ap₂ (λ (a : ℕ) (b : Bool). ltb 0 a && b) (sym (kids-length es cs n ok e (ready .inside))) (sym (st .shared e (ready .inside)))
 
@@ -282,11 +283,16 @@ module _ (es cs : List ℕ) (explicit : Bool) (e : ℕ) (p : ParentHyp) (h : Hel
             (omega (arith, children-within g (ready .counts) explicit e e (parentOf p) (indexOf p) from z k (omega (arith, all-kids)) .given-more, ready .fits .few-marks))
 
         -- the own step after them ends the visit
-        pub visited-new : (h′ : Held) → h′ ≡ finishes (getsBy (childCountIn es e) (word (h₁ .words) (entryAt e))) e (entryStmtIn es e) (parentOf p) (indexOf p) h₁ → Visited es cs explicit e p h h′
+        visited-by : (marks : Bool) → marks ≡ gets h₁ → (h′ : Held) → h′ ≡ finishes marks e (entryStmtIn es e) (parentOf p) (indexOf p) h₁ → Visited es cs explicit e p h h′
         unfolding Visited Listed graphIn
-        visited-new h′ end counts from st =
+        visited-by marks is h′ end counts from st =
             rw (end, visit-new g counts explicit e e (parentOf p) (indexOf p) from (unmarked counts from st), ← all-kids)
-            (stands-finish g counts n h₁ (afterChildren g counts explicit e e k from) (held counts from st) (room-last .step-in) e (ready .inside) _ (gets-is counts h₁ _ (held counts from st)) (parentOf p) (indexOf p))
+            (stands-finish g counts n h₁ (afterChildren g counts explicit e e k from) (held counts from st) (room-last .step-in) e (ready .inside) marks (is ∙ gets-is counts h₁ _ (held counts from st)) (parentOf p) (indexOf p))
+
+        pub visited-new : 0 < childCountIn es e → (h′ : Held) (statement : ℕ) → statement ≡ entryStmtIn es e
+            → h′ ≡ finishes (ltb 1 (word (h₁ .words) (entryAt e))) e statement (parentOf p) (indexOf p) h₁ → Visited es cs explicit e p h h′
+        visited-new some h′ statement is end =
+            visited-by (ltb 1 (word (h₁ .words) (entryAt e))) (rw (lt-ltb 0 (childCountIn es e) some)) h′ (rw is at end)
 
   -- an entry whose word is not below countsBelow times its children is met again or childless
   module _ (once : countsBelow * childCountIn es e ≤ word (h .words) (entryAt e)) where
@@ -305,14 +311,14 @@ module _ (es cs : List ℕ) (explicit : Bool) (e : ℕ) (p : ParentHyp) (h : Hel
         ]
 
     -- one step is its visit
-    pub visited-single : (h′ : Held) → h′ ≡ single e (entryStmtIn es e) (parentOf p) (indexOf p) h → Visited es cs explicit e p h h′
-    visited-single h′ end =
+    pub visited-single : (h′ : Held) (statement : ℕ) → statement ≡ entryStmtIn es e → h′ ≡ single e statement (parentOf p) (indexOf p) h → Visited es cs explicit e p h h′
+    visited-single h′ statement is end =
         elim (ℕ-discrete (word (h .words) (entryAt e) - marked) 0) [
           | yes z ↦ (
               let new : word (h .words) (entryAt e) ≤ marked = omega arith in
-              visited-new new 0 h refl (no-children es cs explicit e h) (sym (childless new)) h′
-              (end ∙ single-own e (entryStmtIn es e) (parentOf p) (indexOf p) h (childCountIn es e) z (childless new)))
-          | no z ↦ visited-met (omega arith) h′ (entryStmtIn es e) end
+              visited-by new 0 h refl (no-children es cs explicit e h) (sym (childless new)) false (rw (childless new)) h′
+              (rw is at (end ∙ single-own e statement (parentOf p) (indexOf p) h z)))
+          | no z ↦ visited-met (omega arith) h′ statement end
         ]
 
 -- ---- the whole walk: the children of QED, then QED itself
@@ -338,13 +344,25 @@ module _ (es cs : List ℕ) (explicit : Bool) (q room : ℕ) (p : Packable es cs
   pub root-ready : Ready es cs explicit q h
   root-ready = record { hyp = Root; visitable = root-visitable; new = root-new }
 
+  -- its visit gives the packed list
+  packed : (h′ : Held) → Visited es cs explicit q Root h h′ → Packed es cs explicit q h′
+  unfolding Visited packedSteps packedWith parentOf indexOf
+  packed h′ visited =
+      let st = visited (parents (graphIn es cs) (size es)) (walkStart (size es)) (begun .stands) in
+      let long = flat-length (packedSteps (graphIn es cs) (size es) q explicit) in
+      record { end-is = omega (arith, st .end-is, long); steps = rw long (st .steps) }
+
+  module _ (none : childCountIn es q ≡ 0) where
+    pub root-alone : Room q Root h
+    root-alone = room-single es cs explicit q Root h root-visitable (omega arith)
+
+    pub root-single : (h′ : Held) (statement : ℕ) → statement ≡ entryStmtIn es q → h′ ≡ single q statement (parentOf Root) (indexOf Root) h → Packed es cs explicit q h′
+    root-single h′ statement is end = packed h′ (visited-single es cs explicit q Root h root-visitable (omega arith) h′ statement is end)
+
   module _ (h₁ : Held) (kept : length (h₁ .words) ≡ length (h .words)) (listed : Listed es cs explicit q (childCountIn es q) h h₁) where
     pub root-room : Room q Root h₁
     root-room = room-last es cs explicit q Root h root-visitable root-new _ h₁ kept listed refl
 
-    pub root-packed : (h′ : Held) → h′ ≡ finishes (getsBy (childCountIn es q) (word (h₁ .words) (entryAt q))) q (entryStmtIn es q) (parentOf Root) (indexOf Root) h₁ → Packed es cs explicit q h′
-    unfolding Visited packedSteps packedWith parentOf indexOf
-    root-packed h′ end =
-        let st = visited-new es cs explicit q Root h root-visitable root-new _ h₁ kept listed refl h′ end (parents (graphIn es cs) (size es)) (walkStart (size es)) (begun .stands) in
-        let long = flat-length (packedSteps (graphIn es cs) (size es) q explicit) in
-        record { end-is = omega (arith, st .end-is, long); steps = rw long (st .steps) }
+    pub root-packed : 0 < childCountIn es q → (h′ : Held) (statement : ℕ) → statement ≡ entryStmtIn es q
+        → h′ ≡ finishes (ltb 1 (word (h₁ .words) (entryAt q))) q statement (parentOf Root) (indexOf Root) h₁ → Packed es cs explicit q h′
+    root-packed some h′ statement is end = packed h′ (visited-new es cs explicit q Root h root-visitable root-new _ h₁ kept listed refl some h′ statement is end)

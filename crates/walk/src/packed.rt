@@ -5,12 +5,12 @@ use crate::hyps::ParentHyp;
 use crate::hyps::child_hyp;
 use crate::marks::COUNTS;
 use crate::marks::MARKED;
-use crate::marks::gets_mark;
 use crate::marks::mark_in;
 use crate::steps::STEP_WORDS;
 use crate::steps::put_step;
 use counts::parents::count_parents;
 use table::EntryNo;
+use table::StatementNo;
 use table::entries::child;
 use table::entries::child_count;
 use table::entries::child_start;
@@ -19,11 +19,9 @@ use table::limits::ENTRY_WORDS;
 use table::numbers::wide;
 ghost use mathlib.Core.Path.{_≡_};
 ghost use lib.ListN.{length};
-ghost use lib.Dec.{eqb};
+ghost use lib.Dec.{eqb, ltb};
 ghost use Rattle.laws.specs.Tools.{pick};
-ghost use Rattle.defs.specs.Table.{word, entryStmtIn, childCountIn};
-ghost use Rattle.table.specs.Records.{EntryIn};
-ghost use Rattle.walk.specs.Marks.{getsBy};
+ghost use Rattle.defs.specs.Table.{word, childCountIn};
 ghost use Rattle.walk.specs.Hyps.{parentOf, indexOf};
 ghost use Rattle.walk.specs.Packed.{entryAt, held, single, finishes, Room, Ready, Listed, Countable, Counted, Packable, Packed};
 
@@ -35,28 +33,29 @@ fn statement_unless(mark: u32, statement: u32) -> u32
 }
 
 // An entry that lists no children first is one step. Met again with a mark it is a back reference, childless it lists itself.
-fn list_single(entries: &[u32], work: &mut [u32], e: EntryNo, hyp: ParentHyp, end: usize) -> usize
-    requires { ⌜ EntryIn (now entries) (e .0) ⌝ }
+fn list_single(
+    work: &mut [u32],
+    e: EntryNo,
+    statement: StatementNo,
+    hyp: ParentHyp,
+    end: usize,
+) -> usize
     requires { ⌜ Room (e .0) hyp (held (now work) end) ⌝ }
-    ensures { λ r. ⌜ held (now (work .exit)) r ≡ single (e .0) (entryStmtIn (now (entries .entry)) (e .0)) (parentOf hyp) (indexOf hyp) (held (now (work .entry)) end) ⌝ }
+    ensures { λ r. ⌜ held (now (work .exit)) r ≡ single (e .0) (statement .0) (parentOf hyp) (indexOf hyp) (held (now (work .entry)) end) ⌝ }
 {
     let at = e.0 as usize + 1;
     let mark = mark_in(work[at]);
-    let statement = statement_of(entries, e);
     put_step(work, end, mark, 0, statement_unless(mark, statement.0), hyp);
     end + STEP_WORDS
 }
 
-// After its children an entry lists itself. If it has children and more than one counted parent it gets the next mark from 1.
-fn finish(entries: &[u32], work: &mut [u32], e: EntryNo, hyp: ParentHyp, end: usize) -> usize
-    requires { ⌜ EntryIn (now entries) (e .0) ⌝ }
+// After its children an entry lists itself. If it has more than one counted parent it gets the next mark from 1.
+fn finish(work: &mut [u32], e: EntryNo, statement: StatementNo, hyp: ParentHyp, end: usize) -> usize
     requires { ⌜ Room (e .0) hyp (held (now work) end) ⌝ }
-    ensures { λ r. ⌜ held (now (work .exit)) r ≡ finishes (getsBy (childCountIn (now (entries .entry)) (e .0)) (word (now (work .entry)) (entryAt (e .0))))
-        (e .0) (entryStmtIn (now (entries .entry)) (e .0)) (parentOf hyp) (indexOf hyp) (held (now (work .entry)) end) ⌝ }
+    ensures { λ r. ⌜ held (now (work .exit)) r ≡ finishes (ltb 1 (word (now (work .entry)) (entryAt (e .0)))) (e .0) (statement .0) (parentOf hyp) (indexOf hyp) (held (now (work .entry)) end) ⌝ }
 {
     let at = e.0 as usize + 1;
-    let statement = statement_of(entries, e);
-    if gets_mark(entries, e, work[at]) {
+    if 1 < work[at] {
         let mark = work[0] + 1;
         work[0] = mark;
         work[at] = MARKED + mark;
@@ -88,12 +87,13 @@ pub fn list_children(
     while k < count {
         let c = child(children, first + k);
         let hyp = child_hyp(entries, explicit, e, k as u32);
+        let statement = statement_of(entries, c);
         let at = c.0 as usize + 1;
         if wide(work[at]) < COUNTS * child_count(entries, c) {
             end = list_children(entries, children, work, explicit, c, end);
-            end = finish(entries, work, c, hyp, end);
+            end = finish(work, c, statement, hyp, end);
         } else {
-            end = list_single(entries, work, c, hyp, end);
+            end = list_single(work, c, statement, hyp, end);
         }
         k += 1;
     }
@@ -122,6 +122,10 @@ pub fn pack(
 {
     let start = entries.len() / ENTRY_WORDS + 1;
     begin(children, work, start);
+    let statement = statement_of(entries, qed);
+    if child_count(entries, qed) == 0 {
+        return list_single(work, qed, statement, ParentHyp::Root, start);
+    }
     let end = list_children(entries, children, work, explicit, qed, start);
-    finish(entries, work, qed, ParentHyp::Root, end)
+    finish(work, qed, statement, ParentHyp::Root, end)
 }

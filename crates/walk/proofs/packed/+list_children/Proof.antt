@@ -17,6 +17,7 @@ use Rattle.walk.proofs.packed.+list_children.Lts-list_children as lts
 use Rattle.table.proofs.entries.child.Reads as child-reads
 use Rattle.table.proofs.entries.child_count.Reads as child-count-reads
 use Rattle.table.proofs.entries.child_start.Reads as child-start-reads
+use Rattle.table.proofs.entries.statement_of.Reads as statement-of-reads
 use Rattle.table.proofs.numbers.wide.Reads as wide-reads
 use Rattle.walk.proofs.hyps.child_hyp.Reads as child-hyp-reads
 use Rattle.walk.proofs.packed.finish.Reads as finish-reads
@@ -51,6 +52,8 @@ calls t = (
   child-reads.Learnt,
   child-hyp-reads.Asked,
   child-hyp-reads.Learnt,
+  statement-of-reads.Asked,
+  statement-of-reads.Learnt,
   wide-reads.Asked,
   wide-reads.Learnt,
   children-below t,
@@ -82,7 +85,7 @@ module _ (t : ℕ) where
   head x = x .before .before .before
 
   abbrev turn : Compared → Turn
-  turn d = d .before .before .before .before
+  turn d = d .before .before .before .before .before
 
   -- what the words hold at the function's entry, and at the loop's head
   abbrev from : Start → Held
@@ -176,6 +179,9 @@ module _ (t : ℕ) where
   child-hyp-requires : lts.Need-child-hyp-requires (calls t) (children-at t) list-children.Post Inv μ
   child-hyp-requires c κs = omega (arith, ready (start (c .before .before)) .visitable .inside)
 
+  statement-of-requires : lts.Need-statement-of-requires (calls t) (children-at t) list-children.Post Inv μ
+  statement-of-requires c κs = omega (arith, visitable c .inside)
+
   cast-at : lts.Need-cast-at (calls t) (children-at t) list-children.Post Inv μ
   cast-at c = omega arith
 
@@ -183,16 +189,16 @@ module _ (t : ℕ) where
   add-at c = omega arith
 
   mul-wide : lts.Need-mul-wide (calls t) (children-at t) list-children.Post Inv μ
-  mul-wide c = omega (arith, visitable (c .before) .inside, visitable (c .before) .long)
+  mul-wide c = omega (arith, visitable (c .before .before) .inside, visitable (c .before .before) .long)
 
   slice-read-wide : lts.Need-slice-read-wide (calls t) (children-at t) list-children.Post Inv μ
-  slice-read-wide c = omega (arith, visitable (c .before .before) .inside, visitable (c .before .before) .long)
+  slice-read-wide c = omega (arith, visitable (c .before .before .before) .inside, visitable (c .before .before .before) .long)
 
   wide-requires : lts.Need-wide-requires (calls t) (children-at t) list-children.Post Inv μ
   wide-requires c κs = tt
 
   child-count-requires-2 : lts.Need-child-count-requires-2 (calls t) (children-at t) list-children.Post Inv μ
-  child-count-requires-2 c κs = omega (arith, visitable (c .before .before .before) .inside)
+  child-count-requires-2 c κs = omega (arith, visitable (c .before .before .before .before) .inside)
 
   mul-if1 : lts.Need-mul-if1 (calls t) (children-at t) list-children.Post Inv μ
   mul-if1 c = omega (arith, sides c)
@@ -206,13 +212,12 @@ module _ (t : ℕ) where
   finish-requires : lts.Need-finish-requires (calls t) (children-at t) list-children.Post Inv μ
   finish-requires c κs =
       let d = c .before .before .before .before .before .before in
-      let x = turn d in
-      (omega (arith, visitable x .inside), room-last _ _ _ _ _ _ (visitable x) (unmarked d (c .before .before .before .before .before .if1 .taken)) _ _ (c .before .before .before .list-children .kept .1 .1 .0) (c .before .before .before .list-children .ensures) refl)
+      room-last _ _ _ _ _ _ (visitable (turn d)) (unmarked d (c .before .before .before .before .before .if1 .taken)) _ _ (c .before .before .before .list-children .kept .1 .1 .0) (c .before .before .before .list-children .ensures) refl
 
   list-single-requires : lts.Need-list-single-requires (calls t) (children-at t) list-children.Post Inv μ
   list-single-requires c κs =
       let d = c .before .before in
-      (omega (arith, visitable (turn d) .inside), room-single _ _ _ _ _ _ (visitable (turn d)) (once d (c .before .if1 .left)))
+      room-single _ _ _ _ _ _ (visitable (turn d)) (once d (c .before .if1 .left))
 
   add-k : lts.Need-add-k (calls t) (children-at t) list-children.Post Inv μ
   add-k c = omega (arith, inside (head (turn (c .before))))
@@ -226,16 +231,17 @@ module _ (t : ℕ) where
       let x = turn d in
       let p = head x in
       let s = start p in
-      let more = next-child _ _ _ _ _ _ (ready s .visitable) (ready s .new) (p .loop .k) (here p) (p .loop .inv .1 .0) (p .loop .inv .1 .1) _ _ (child-of x) in (
+      let more = next-child _ _ _ _ _ _ (ready s .visitable) (ready s .new) (p .loop .k) (here p) (p .loop .inv .1 .0) (p .loop .inv .1 .1) _ _ (child-of x) in
+      let statement = d .before .before .before .before .statement-of .ensures in (
         omega arith,
         ⊎-elim
             (λ w. (
-              ap length (w .9) ∙ w .6 .kept .1 .0 ∙ w .2 .kept .1 .1 .0 ∙ p .loop .inv .1 .0,
-              more _ (visited-new _ _ _ _ _ _ (visitable x) (unmarked d (w .0 .taken)) _ _ (w .2 .kept .1 .1 .0) (w .2 .ensures) refl _ (ap₂ held (w .9) (w .10) ∙ w .6 .ensures)),
+              ap length (w .9) ∙ w .6 .kept .0 ∙ w .2 .kept .1 .1 .0 ∙ p .loop .inv .1 .0,
+              more _ (visited-new _ _ _ _ _ _ (visitable x) (unmarked d (w .0 .taken)) _ _ (w .2 .kept .1 .1 .0) (w .2 .ensures) refl (omega (arith, sides d, w .0 .taken)) _ _ statement (ap₂ held (w .9) (w .10) ∙ w .6 .ensures)),
             ))
             (λ w. (
-              ap length (w .5) ∙ w .2 .kept .1 .0 ∙ p .loop .inv .1 .0,
-              more _ (visited-single _ _ _ _ _ _ (visitable x) (once d (w .0 .left)) _ (ap₂ held (w .5) (w .6) ∙ w .2 .ensures)),
+              ap length (w .5) ∙ w .2 .kept .0 ∙ p .loop .inv .1 .0,
+              more _ (visited-single _ _ _ _ _ _ (visitable x) (once d (w .0 .left)) _ _ statement (ap₂ held (w .5) (w .6) ∙ w .2 .ensures)),
             ))
             (c .if1 .came),
       )
@@ -259,6 +265,7 @@ pub +list-children-spec : {M : Type 1} → statement M
     (child-requires t)
     (cast-child-hyp t)
     (child-hyp-requires t)
+    (statement-of-requires t)
     (cast-at t)
     (add-at t)
     (mul-wide t)
