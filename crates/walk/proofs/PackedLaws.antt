@@ -41,7 +41,14 @@ module _ (gets : Bool) (e statement parent index : ℕ) (h : Held) where
   unfolding finishes
   finishes-marked z = rw z
 
--- that of a childless entry is its one step
+-- ---- the one step of an entry that lists no children first
+
+pub one-step : (e statement parent index mark own : ℕ) (h : Held) → mark ≡ word (h .words) (entryAt e) - marked → own ≡ pick (eqb mark 0) statement 0
+    → held (withStep (h .words) (h .end) (step mark 0 own parent index)) (h .end + stepSize) ≡ single e statement parent index h
+unfolding single
+one-step e statement parent index mark own h is own-is = rw (own-is, is)
+
+-- without a mark it is its own
 single-own : (e statement parent index : ℕ) (h : Held) → word (h .words) (entryAt e) - marked ≡ 0 → single e statement parent index h ≡ finishes false e statement parent index h
 unfolding single
 single-own e statement parent index h plain = rw (plain, finishes-plain false e statement parent index h refl)

@@ -44,12 +44,12 @@ enough c = omega (arith, c .before .working-words .ensures, c .if2 .left)
 
 -- past test 13 the count is the number of steps
 few : (c : tie.Else3) → bad13 (c .before .before .before .before .before .before .before .before .before .before .before .before .before .before .before .before .before .args .words .now) ≡ false
-few c = let x = c .before .before .before in are-few _ _ (good (x .before .before .before .before .before .before .before .before)) _ _ _ (x .before .before .before .before .entry-section .ensures) (x .before .before .before .child-section .ensures) (x .before .before .before .before .before .read-header .ensures .qed-is) _ (x .count-steps .ensures) (c .if3 .left)
+few c = let x = c .before .before .before in are-few _ _ (good (x .before .before .before .before .before .before .before .before)) _ _ _ (x .before .before .before .before .entry-section .ensures) (x .before .before .before .child-section .ensures) (x .before .before .before .before .before .read-header .ensures .qed-is) _ (x .count-steps .ensures) (omega (arith, c .if3 .left))
 
 long : (c : tie.After-wide2) → length (stepListWords (c .before .before .before .before .before .before .before .before .before .before .before .before .before .before .before .before .before .before .args .words .now) false (c .before .before .before .before .before .before .before .before .before .before .before .before .before .before .before .before .before .before .args .explicit)) ≡ stepSize * c .wide2 .result
 long c =
     let x = c .before .before .before .before in
-    list-long _ _ (good (x .before .before .before .before .before .before .before .before)) _ _ _ (x .before .before .before .before .entry-section .ensures) (x .before .before .before .child-section .ensures) (x .before .before .before .before .before .read-header .ensures .qed-is) _ (x .count-steps .ensures) (x .before .before .before .before .before .before .before .before .before .before .before .before .before .before .args .explicit) (c .before .if3 .left)
+    list-long _ _ (good (x .before .before .before .before .before .before .before .before)) _ _ _ (x .before .before .before .before .entry-section .ensures) (x .before .before .before .child-section .ensures) (x .before .before .before .before .before .read-header .ensures .qed-is) _ (x .count-steps .ensures) (x .before .before .before .before .before .before .before .before .before .before .before .before .before .before .args .explicit) (omega (arith, c .before .if3 .left))
     ∙ ap (λ (n : ℕ). stepSize * n) (sym (c .wide2 .ensures))
 
 -- what a fill leaves of the working slice
@@ -113,7 +113,7 @@ returns-3 : tie.Need-returns-3
 returns-3 c =
     let x = c .before .before .before .before .before .before .before in
     too-many _ _ _ _ _ _ (good (x .before .before .before .before .before .before .before .before)) (enough (x .before .before .before .before .before .before)) _ _ _ (c .before .before .ended .ensures .0 .0) (c .before .before .ended .ensures .0 .1) (wiped x _ (c .before .before .ended .ensures .1))
-    (are-many _ _ (good (x .before .before .before .before .before .before .before .before)) _ _ _ (x .before .before .before .before .entry-section .ensures) (x .before .before .before .child-section .ensures) (x .before .before .before .before .before .read-header .ensures .qed-is) _ (x .count-steps .ensures) (c .before .before .before .before .if3 .taken))
+    (are-many _ _ (good (x .before .before .before .before .before .before .before .before)) _ _ _ (x .before .before .before .before .entry-section .ensures) (x .before .before .before .child-section .ensures) (x .before .before .before .before .before .read-header .ensures .qed-is) _ (x .count-steps .ensures) (omega (arith, c .before .before .before .before .if3 .taken)))
 
 -- src/normal.rt:104:31
 wide-requires-2 : tie.Need-wide-requires-2

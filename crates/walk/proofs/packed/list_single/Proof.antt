@@ -1,7 +1,7 @@
 -- The step put down is the definition's: the mark that the word holds, and the statement where there is none.
 -- Each of its words is what a call ensures.
 use mathlib.Core.Path.{_≡_}
-use Rattle.walk.specs.Packed.{single}
+use Rattle.walk.proofs.PackedLaws.{one-step}
 use borrow.Author.Needs.{needs}
 use Rattle.walk.proofs.packed.list_single.Statement.{statement}
 use Rattle.walk.proofs.packed.list_single.Tie as tie
@@ -49,8 +49,7 @@ same-length c = search needs
 
 -- src/packed.rt:36:1
 returns : tie.Need-returns
-unfolding single
-returns c = rw (c .before .before .put-step .ensures, c .before .before .before .statement-unless .ensures, c .before .before .before .before .before .mark-in .ensures)
+returns c = rw (c .before .before .put-step .ensures) (one-step _ _ _ _ _ _ _ (c .before .before .before .before .before .mark-in .ensures) (c .before .before .before .statement-unless .ensures))
 
 pub list-single-spec : {M : Type 1} → statement M
 list-single-spec =
