@@ -26,7 +26,6 @@ use Rattle.walk.specs.Hyps.{parentOf, indexOf}
 use Rattle.walk.specs.Steps.{step, withStep}
 use Rattle.walk.specs.Packed.{Held, held, entryAt, stepsFrom, single, finishes, Room, Stands, Fits, visitFrom, Visitable, Ready, Listed, Visited, walkStart, Packing, Begun, Packable, Packed}
 use Rattle.walk.proofs.StepLaws.{before-step, step-more}
-use Rattle.walk.specs.declared.hyps.ParentHyp.{ParentHyp}
 use Rattle.walk.specs.declared.hyps.ParentHyp.the-variants.{Root}
 
 -- ---- the own step of an entry
@@ -160,17 +159,19 @@ stands-finish g counts n h t st room e l gets is parent index =
 
 -- ---- a visit, part by part
 
+-- room for a step is room for one that carries the same parent word
+pub room-for : (e parent p : ℕ) (h : Held) → p ≡ parent → Room e parent h → Room e p h
+room-for e parent p h is room = rw is room
+
 -- after none they hold it as it was
 pub no-children : (es cs : List ℕ) (explicit : Bool) (e : ℕ) (h : Held) → Listed es cs explicit e 0 h h
 unfolding Listed
 no-children es cs explicit e h counts from st = rw (children-none (graphIn es cs) counts explicit e e from) st
 
--- c is child k of entry e, and q is its parent hypothesis in the list
-pub record Child (es cs : List ℕ) (explicit : Bool) (e k c : ℕ) (q : ParentHyp) : Type 0 where
+-- c is child k of entry e
+pub record Child (es cs : List ℕ) (e k c : ℕ) : Type 0 where
   pub more : k < childCountIn es e
   pub child-is : c ≡ word cs (childStartIn es e + k)
-  pub parent-is : parentOf q ≡ parentWord explicit (entryStmtIn es e)
-  pub index-is : indexOf q ≡ indexWord explicit k
 
 -- a parent word is at most one more than the statement
 parent-most : (explicit : Bool) (k : ℕ) → parentWord explicit k ≤ k + 1
@@ -181,7 +182,7 @@ parent-most false k = omega arith
 within : (es cs : List ℕ) (s t : Walk) → Grown s t → Fits es cs t → Fits es cs s
 within es cs s t grown f = record { few-steps = omega (arith, longer s t grown, f .few-steps); few-marks = omega (arith, grown .given-more, f .few-marks) }
 
-module _ (es cs : List ℕ) (explicit : Bool) (e : ℕ) (p : ParentHyp) (h : Held) (ready : Visitable es cs explicit e p h) where
+module _ (es cs : List ℕ) (explicit : Bool) (e parent index : ℕ) (h : Held) (ready : Visitable es cs explicit e parent index h) where
   abbrev g : Graph
   g = graphIn es cs
 
@@ -204,7 +205,7 @@ module _ (es cs : List ℕ) (explicit : Bool) (e : ℕ) (p : ParentHyp) (h : Hel
       ap₂ (λ (a : ℕ) (b : Bool). ltb 0 a && b) (sym (kids-length es cs n ok e (ready .inside))) (sym (st .shared e (ready .inside)))
 
   -- the words have room for the step that comes after the walk t
-  room-after : (h₁ : Held) (t : Walk) → length (h₁ .words) ≡ length (h .words) → Stands g (ready .counts) n h₁ t → length (t .out) ≤ length cs → t .given ≤ n → Room e p h₁
+  room-after : (h₁ : Held) (t : Walk) → length (h₁ .words) ≡ length (h .words) → Stands g (ready .counts) n h₁ t → length (t .out) ≤ length cs → t .given ≤ n → Room e parent h₁
   room-after h₁ t same st l m =
       let long = ready .long in
       record {
@@ -218,28 +219,28 @@ module _ (es cs : List ℕ) (explicit : Bool) (e : ℕ) (p : ParentHyp) (h : Hel
     marked-before : (counts : List ℕ) (from : Walk) → Stands g counts n h from → markOf from e ≢ 0
     marked-before counts from st z = omega (arith, st .marks e (ready .inside))
 
-    room-met : Room e p h
+    room-met : Room e parent h
     room-met =
         let from = ready .from in
-        let t = visitFrom es cs (ready .counts) explicit e p from in
-        let one = ap (λ (s : Walk). length (s .out)) (visit-met g (ready .counts) explicit e e (parentOf p) (indexOf p) from (marked-before (ready .counts) from (ready .stands))) in
+        let t = visitFrom es cs (ready .counts) explicit e parent index from in
+        let one = ap (λ (s : Walk). length (s .out)) (visit-met g (ready .counts) explicit e e parent index from (marked-before (ready .counts) from (ready .stands))) in
         room-after h from refl (ready .stands)
-        (omega (arith, one, refer-one e (parentOf p) (indexOf p) from, ready .fits .few-steps))
-        (omega (arith, visit-grows g (ready .counts) explicit (suc e) e (parentOf p) (indexOf p) from .given-more, ready .fits .few-marks))
+        (omega (arith, one, refer-one e parent index from, ready .fits .few-steps))
+        (omega (arith, visit-grows g (ready .counts) explicit (suc e) e parent index from .given-more, ready .fits .few-marks))
 
     -- a back reference is the visit of an entry met again
-    visited-met : (h′ : Held) (statement : ℕ) → h′ ≡ single e statement (parentOf p) (indexOf p) h → Visited es cs explicit e p h h′
+    visited-met : (h′ : Held) (statement : ℕ) → h′ ≡ single e statement parent index h → Visited es cs explicit e parent index h h′
     unfolding Visited
     visited-met h′ statement same counts from st =
-        rw (same, visit-met g counts explicit e e (parentOf p) (indexOf p) from (marked-before counts from st))
-        (stands-refer g counts n h from st (room-met .step-in) e (ready .inside) met statement (parentOf p) (indexOf p))
+        rw (same, visit-met g counts explicit e e parent index from (marked-before counts from st))
+        (stands-refer g counts n h from st (room-met .step-in) e (ready .inside) met statement parent index)
 
   module _ (new : word (h .words) (entryAt e) ≤ marked) where
     unmarked : (counts : List ℕ) (from : Walk) → Stands g counts n h from → markOf from e ≡ 0
     unmarked counts from st = omega (arith, st .marks e (ready .inside))
 
     module _ (k : ℕ) (h₁ : Held) (same : length (h₁ .words) ≡ length (h .words)) (held : Listed es cs explicit e k h h₁) where
-      module _ (c : ℕ) (q : ParentHyp) (child : Child es cs explicit e k c q) where
+      module _ (c : ℕ) (child : Child es cs e k c) where
         more : k < length (g .kids e)
         more = omega (arith, child .more, kids-length es cs n ok e (ready .inside))
 
@@ -247,29 +248,29 @@ module _ (es cs : List ℕ) (explicit : Bool) (e : ℕ) (p : ParentHyp) (h : Hel
         child-is = child .child-is ∙ sym (child-at es cs e k (child .more))
 
         -- the visit that the recursion does is that of the child
-        visits-child : (counts : List ℕ) (s : Walk) → visitFrom es cs counts explicit c q s ≡ visit g counts explicit e (getD (g .kids e) k 0) (parentWord explicit (g .stmt e)) (indexWord explicit k) s
+        visits-child : (counts : List ℕ) (s : Walk) → visitFrom es cs counts explicit c (parentWord explicit (entryStmtIn es e)) (indexWord explicit k) s ≡ visit g counts explicit e (getD (g .kids e) k 0) (parentWord explicit (g .stmt e)) (indexWord explicit k) s
         unfolding graphIn
         visits-child counts s =
-            rw (child-is, child .parent-is, child .index-is) (child-depth g n (entries-fall es cs n ok) counts explicit e k (parentWord explicit (g .stmt e)) (indexWord explicit k) s (ready .inside) more)
+            rw child-is (child-depth g n (entries-fall es cs n ok) counts explicit e k (parentWord explicit (g .stmt e)) (indexWord explicit k) s (ready .inside) more)
 
-        pub child-visitable : Visitable es cs explicit c q h₁
+        pub child-visitable : Visitable es cs explicit c (parentWord explicit (entryStmtIn es e)) (indexWord explicit k) h₁
         unfolding Listed
         child-visitable =
             let s : Walk = afterChildren g (ready .counts) explicit e e k (ready .from) in
             record {
               entries = ready .entries;
               inside = omega (arith, child-is, kid-below es cs n ok e k (ready .inside) more, ready .inside);
-              hyp-fits = omega (arith, child .parent-is, parent-most explicit (entryStmtIn es e), ready .entries .statements-few e (ready .inside));
+              hyp-fits = omega (arith, parent-most explicit (entryStmtIn es e), ready .entries .statements-few e (ready .inside));
               long = rw same (ready .long);
               counts = ready .counts;
               from = s;
               stands = held (ready .counts) (ready .from) (ready .stands);
               fits = rw (visits-child (ready .counts) s)
-                  (within es cs _ _ (child-within g (ready .counts) explicit e e (parentOf p) (indexOf p) (ready .from) (unmarked (ready .counts) (ready .from) (ready .stands)) k more) (ready .fits));
+                  (within es cs _ _ (child-within g (ready .counts) explicit e e parent index (ready .from) (unmarked (ready .counts) (ready .from) (ready .stands)) k more) (ready .fits));
             }
 
         -- one child more
-        pub next-child : (h₂ : Held) → Visited es cs explicit c q h₁ h₂ → Listed es cs explicit e (k + 1) h h₂
+        pub next-child : (h₂ : Held) → Visited es cs explicit c (parentWord explicit (entryStmtIn es e)) (indexWord explicit k) h₁ h₂ → Listed es cs explicit e (k + 1) h h₂
         unfolding Listed Visited
         next-child h₂ visited counts from st =
             rw (visits-child counts (afterChildren g counts explicit e e k from) ∙ children-next g counts explicit e e k from more)
@@ -279,27 +280,27 @@ module _ (es cs : List ℕ) (explicit : Bool) (e : ℕ) (p : ParentHyp) (h : Hel
         all-kids : k ≡ length (g .kids e)
         all-kids = omega (arith, kids-length es cs n ok e (ready .inside))
 
-        pub room-last : Room e p h₁
+        pub room-last : Room e parent h₁
         unfolding Listed
         room-last =
             let from = ready .from in
             let z = unmarked (ready .counts) from (ready .stands) in
-            let room = children-room g (ready .counts) explicit e e (parentOf p) (indexOf p) from z k (omega (arith, all-kids)) in
+            let room = children-room g (ready .counts) explicit e e parent index from z k (omega (arith, all-kids)) in
             room-after h₁ (afterChildren g (ready .counts) explicit e e k from) same (held (ready .counts) from (ready .stands))
             (omega (arith, room, ready .fits .few-steps))
-            (omega (arith, children-within g (ready .counts) explicit e e (parentOf p) (indexOf p) from z k (omega (arith, all-kids)) .given-more, ready .fits .few-marks))
+            (omega (arith, children-within g (ready .counts) explicit e e parent index from z k (omega (arith, all-kids)) .given-more, ready .fits .few-marks))
 
         -- the own step after them ends the visit
-        visited-by : (marks : Bool) → marks ≡ gets h₁ → (h′ : Held) → h′ ≡ finishes marks e (entryStmtIn es e) (parentOf p) (indexOf p) h₁ → Visited es cs explicit e p h h′
+        visited-by : (marks : Bool) → marks ≡ gets h₁ → (h′ : Held) → h′ ≡ finishes marks e (entryStmtIn es e) parent index h₁ → Visited es cs explicit e parent index h h′
         unfolding Visited Listed graphIn
         visited-by marks is h′ end counts from st =
-            rw (end, visit-new g counts explicit e e (parentOf p) (indexOf p) from (unmarked counts from st), ← all-kids)
-            (stands-finish g counts n h₁ (afterChildren g counts explicit e e k from) (held counts from st) (room-last .step-in) e (ready .inside) marks (is ∙ gets-is counts h₁ _ (held counts from st)) (parentOf p) (indexOf p))
+            rw (end, visit-new g counts explicit e e parent index from (unmarked counts from st), ← all-kids)
+            (stands-finish g counts n h₁ (afterChildren g counts explicit e e k from) (held counts from st) (room-last .step-in) e (ready .inside) marks (is ∙ gets-is counts h₁ _ (held counts from st)) parent index)
 
-        pub visited-new : 0 < childCountIn es e → (h′ : Held) (statement : ℕ) → statement ≡ entryStmtIn es e
-            → h′ ≡ finishes (ltb 1 (word (h₁ .words) (entryAt e))) e statement (parentOf p) (indexOf p) h₁ → Visited es cs explicit e p h h′
-        visited-new some h′ statement is end =
-            visited-by (ltb 1 (word (h₁ .words) (entryAt e))) (rw (lt-ltb 0 (childCountIn es e) some)) h′ (rw is at end)
+        pub visited-new : 0 < childCountIn es e → (h′ : Held) (statement p i : ℕ) → statement ≡ entryStmtIn es e → p ≡ parent → i ≡ index
+            → h′ ≡ finishes (ltb 1 (word (h₁ .words) (entryAt e))) e statement p i h₁ → Visited es cs explicit e parent index h h′
+        visited-new some h′ statement p i is parent-is index-is end =
+            visited-by (ltb 1 (word (h₁ .words) (entryAt e))) (rw (lt-ltb 0 (childCountIn es e) some)) h′ (rw (is, parent-is, index-is) at end)
 
   -- an entry whose word is not below countsBelow times its children is met again or childless
   module _ (once : countsBelow * childCountIn es e ≤ word (h .words) (entryAt e)) where
@@ -310,7 +311,7 @@ module _ (es cs : List ℕ) (explicit : Bool) (e : ℕ) (p : ParentHyp) (h : Hel
           | no z ↦ absurd (omega (arith, ready .stands .apart e (ready .inside) (omega arith)))
         ]
 
-    pub room-single : Room e p h
+    pub room-single : Room e parent h
     room-single =
         elim (ℕ-discrete (word (h .words) (entryAt e) - marked) 0) [
           | yes z ↦ (let new : word (h .words) (entryAt e) ≤ marked = omega arith in room-last new 0 h refl (no-children es cs explicit e h) (sym (childless new)))
@@ -318,21 +319,20 @@ module _ (es cs : List ℕ) (explicit : Bool) (e : ℕ) (p : ParentHyp) (h : Hel
         ]
 
     -- one step is its visit
-    pub visited-single : (h′ : Held) (statement : ℕ) → statement ≡ entryStmtIn es e → h′ ≡ single e statement (parentOf p) (indexOf p) h → Visited es cs explicit e p h h′
-    visited-single h′ statement is end =
+    pub visited-single : (h′ : Held) (statement p i : ℕ) → statement ≡ entryStmtIn es e → p ≡ parent → i ≡ index → h′ ≡ single e statement p i h → Visited es cs explicit e parent index h h′
+    visited-single h′ statement p i is parent-is index-is end =
         elim (ℕ-discrete (word (h .words) (entryAt e) - marked) 0) [
           | yes z ↦ (
               let new : word (h .words) (entryAt e) ≤ marked = omega arith in
               visited-by new 0 h refl (no-children es cs explicit e h) (sym (childless new)) false (rw (childless new)) h′
-              (rw is at (end ∙ single-own e statement (parentOf p) (indexOf p) h z)))
-          | no z ↦ visited-met (omega arith) h′ statement end
+              (rw (is, parent-is, index-is) at (end ∙ single-own e statement p i h z)))
+          | no z ↦ visited-met (omega arith) h′ statement (rw (parent-is, index-is) at end)
         ]
 
 -- ---- the whole walk: the children of QED, then QED itself
 
 module _ (es cs : List ℕ) (explicit : Bool) (q room : ℕ) (p : Packable es cs explicit q room) (h : Held) (begun : Begun es cs h) (same : length (h .words) ≡ room) where
-  root-visitable : Visitable es cs explicit q Root h
-  unfolding parentOf indexOf
+  root-visitable : Visitable es cs explicit q 0 0 h
   root-visitable =
       record {
         entries = p .packing .entries;
@@ -349,27 +349,31 @@ module _ (es cs : List ℕ) (explicit : Bool) (q room : ℕ) (p : Packable es cs
   root-new = begun .unmarked q (p .inside)
 
   pub root-ready : Ready es cs explicit q h
-  root-ready = record { hyp = Root; visitable = root-visitable; new = root-new }
+  root-ready = record { parent = 0; index = 0; visitable = root-visitable; new = root-new }
 
   -- its visit gives the packed list
-  packed : (h′ : Held) → Visited es cs explicit q Root h h′ → Packed es cs explicit q h′
-  unfolding Visited packedSteps packedWith parentOf indexOf
+  packed : (h′ : Held) → Visited es cs explicit q 0 0 h h′ → Packed es cs explicit q h′
+  unfolding Visited packedSteps packedWith
   packed h′ visited =
       let st = visited (parents (graphIn es cs) (size es)) (walkStart (size es)) (begun .stands) in
       let long = flat-length (packedSteps (graphIn es cs) (size es) q explicit) in
       record { end-is = omega (arith, st .end-is, long); steps = rw long (st .steps) }
 
   module _ (none : childCountIn es q ≡ 0) where
-    pub root-alone : Room q Root h
-    root-alone = room-single es cs explicit q Root h root-visitable (omega arith)
+    pub root-alone : Room q (parentOf Root) h
+    unfolding parentOf
+    root-alone = room-single es cs explicit q 0 0 h root-visitable (omega arith)
 
     pub root-single : (h′ : Held) (statement : ℕ) → statement ≡ entryStmtIn es q → h′ ≡ single q statement (parentOf Root) (indexOf Root) h → Packed es cs explicit q h′
-    root-single h′ statement is end = packed h′ (visited-single es cs explicit q Root h root-visitable (omega arith) h′ statement is end)
+    unfolding parentOf indexOf
+    root-single h′ statement is end = packed h′ (visited-single es cs explicit q 0 0 h root-visitable (omega arith) h′ statement 0 0 is refl refl end)
 
   module _ (h₁ : Held) (kept : length (h₁ .words) ≡ length (h .words)) (listed : Listed es cs explicit q (childCountIn es q) h h₁) where
-    pub root-room : Room q Root h₁
-    root-room = room-last es cs explicit q Root h root-visitable root-new _ h₁ kept listed refl
+    pub root-room : Room q (parentOf Root) h₁
+    unfolding parentOf
+    root-room = room-last es cs explicit q 0 0 h root-visitable root-new _ h₁ kept listed refl
 
     pub root-packed : 0 < childCountIn es q → (h′ : Held) (statement : ℕ) → statement ≡ entryStmtIn es q
         → h′ ≡ finishes (ltb 1 (word (h₁ .words) (entryAt q))) q statement (parentOf Root) (indexOf Root) h₁ → Packed es cs explicit q h′
-    root-packed some h′ statement is end = packed h′ (visited-new es cs explicit q Root h root-visitable root-new _ h₁ kept listed refl some h′ statement is end)
+    unfolding parentOf indexOf
+    root-packed some h′ statement is end = packed h′ (visited-new es cs explicit q 0 0 h root-visitable root-new _ h₁ kept listed refl some h′ statement 0 0 is refl refl end)

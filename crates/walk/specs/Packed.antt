@@ -15,9 +15,7 @@ use Rattle.counts.specs.Parents.{Within, Filled}
 use Rattle.lengths.specs.Bound.{afterChildren}
 use Rattle.walk.specs.Entries.{size, Entries}
 use Rattle.walk.specs.Marks.{marked}
-use Rattle.walk.specs.Hyps.{parentOf, indexOf}
 use Rattle.walk.specs.Steps.{step, withStep}
-use Rattle.walk.specs.declared.hyps.ParentHyp.{ParentHyp}
 
 -- ---- the words, with where the next step goes
 
@@ -50,11 +48,11 @@ finishes gets e statement parent index h =
     (held (withStep (h .words) (h .end) (step 0 0 statement parent index)) (h .end + stepSize))
 
 -- what either asks: the entry's word and room for a step, a mark more and the parent word
-pub record Room (e : ℕ) (p : ParentHyp) (h : Held) : Type 0 where
+pub record Room (e parent : ℕ) (h : Held) : Type 0 where
   pub entry-in : entryAt e < length (h .words)
   pub step-in : h .end + stepSize ≤ length (h .words)
   pub mark-fits : marked + (word (h .words) 0 + 1) ≤ maxWord
-  pub hyp-fits : parentOf p ≤ maxWord
+  pub hyp-fits : parent ≤ maxWord
 
 -- ---- the walk of document 01 that they hold
 
@@ -74,24 +72,25 @@ pub record Fits (es cs : List ℕ) (t : Walk) : Type 0 where
   pub few-marks : t .given ≤ size es
 
 -- the visit of entry e from t
-abbrev pub visitFrom : (es cs counts : List ℕ) (explicit : Bool) (e : ℕ) (p : ParentHyp) (t : Walk) → Walk
-visitFrom es cs counts explicit e p t = visit (graphIn es cs) counts explicit (suc e) e (parentOf p) (indexOf p) t
+abbrev pub visitFrom : (es cs counts : List ℕ) (explicit : Bool) (e parent index : ℕ) (t : Walk) → Walk
+visitFrom es cs counts explicit e parent index t = visit (graphIn es cs) counts explicit (suc e) e parent index t
 
--- the words hold a walk from which entry e can be visited, with the parent hypothesis p
-pub record Visitable (es cs : List ℕ) (explicit : Bool) (e : ℕ) (p : ParentHyp) (h : Held) : Type 0 where
+-- the words hold a walk from which entry e can be visited, with the parent and index words that its step is to carry
+pub record Visitable (es cs : List ℕ) (explicit : Bool) (e parent index : ℕ) (h : Held) : Type 0 where
   pub entries : Entries es cs
   pub inside : e < size es
-  pub hyp-fits : parentOf p ≤ maxWord
+  pub hyp-fits : parent ≤ maxWord
   pub long : stepsFrom (size es) + stepSize * (length cs + 1) ≤ length (h .words)
   pub counts : List ℕ
   pub from : Walk
   pub stands : Stands (graphIn es cs) counts (size es) h from
-  pub fits : Fits es cs (visitFrom es cs counts explicit e p from)
+  pub fits : Fits es cs (visitFrom es cs counts explicit e parent index from)
 
 -- and it has no mark yet, so that its children come first
 pub record Ready (es cs : List ℕ) (explicit : Bool) (e : ℕ) (h : Held) : Type 0 where
-  pub hyp : ParentHyp
-  pub visitable : Visitable es cs explicit e hyp h
+  pub parent : ℕ
+  pub index : ℕ
+  pub visitable : Visitable es cs explicit e parent index h
   pub new : word (h .words) (entryAt e) ≤ marked
 
 -- whatever walk the words held, they hold it after the first k children of entry e
@@ -101,10 +100,10 @@ Listed es cs explicit e k h h′ =
     → Stands (graphIn es cs) counts (size es) h′ (afterChildren (graphIn es cs) counts explicit e e k from)
 
 -- after the visit of entry e
-unfoldable pub Visited : (es cs : List ℕ) (explicit : Bool) (e : ℕ) (p : ParentHyp) (h h′ : Held) → Type 0
-Visited es cs explicit e p h h′ =
+unfoldable pub Visited : (es cs : List ℕ) (explicit : Bool) (e parent index : ℕ) (h h′ : Held) → Type 0
+Visited es cs explicit e parent index h h′ =
     (counts : List ℕ) (from : Walk) → Stands (graphIn es cs) counts (size es) h from
-    → Stands (graphIn es cs) counts (size es) h′ (visitFrom es cs counts explicit e p from)
+    → Stands (graphIn es cs) counts (size es) h′ (visitFrom es cs counts explicit e parent index from)
 
 -- ---- the whole walk
 

@@ -2,7 +2,7 @@
 // are given, then one word an entry (its counted parents, or its mark: crate::marks), then the steps. Each function is told where the next
 // step goes, and answers where the one after goes.
 use crate::hyps::ParentHyp;
-use crate::hyps::child_hyp;
+use crate::hyps::hyp_at;
 use crate::marks::COUNTS;
 use crate::marks::MARKED;
 use crate::marks::mark_in;
@@ -40,7 +40,7 @@ fn list_single(
     hyp: ParentHyp,
     end: usize,
 ) -> usize
-    requires { ⌜ Room (e .0) hyp (held (now work) end) ⌝ }
+    requires { ⌜ Room (e .0) (parentOf hyp) (held (now work) end) ⌝ }
     ensures { λ r. ⌜ held (now (work .exit)) r ≡ single (e .0) (statement .0) (parentOf hyp) (indexOf hyp) (held (now (work .entry)) end) ⌝ }
 {
     let at = e.0 as usize + 1;
@@ -51,7 +51,7 @@ fn list_single(
 
 // After its children an entry lists itself. If it has more than one counted parent it gets the next mark from 1.
 fn finish(work: &mut [u32], e: EntryNo, statement: StatementNo, hyp: ParentHyp, end: usize) -> usize
-    requires { ⌜ Room (e .0) hyp (held (now work) end) ⌝ }
+    requires { ⌜ Room (e .0) (parentOf hyp) (held (now work) end) ⌝ }
     ensures { λ r. ⌜ held (now (work .exit)) r ≡ finishes (ltb 1 (word (now (work .entry)) (entryAt (e .0)))) (e .0) (statement .0) (parentOf hyp) (indexOf hyp) (held (now (work .entry)) end) ⌝ }
 {
     let at = e.0 as usize + 1;
@@ -80,22 +80,22 @@ pub fn list_children(
     ensures { λ r. ⌜ Listed (now (entries .entry)) (now (children .entry)) explicit (e .0) (childCountIn (now (entries .entry)) (e .0))
         (held (now (work .entry)) start) (held (now (work .exit)) r) ⌝ }
 {
-    let first = child_start(entries, e);
-    let count = child_count(entries, e);
+    let mut i = child_start(entries, e);
+    let last = i + child_count(entries, e);
     let mut end = start;
-    let mut k: usize = 0;
-    while k < count {
-        let c = child(children, first + k);
-        let hyp = child_hyp(entries, explicit, e, k as u32);
+    while i < last {
+        let c = child(children, i);
         let statement = statement_of(entries, c);
         let at = c.0 as usize + 1;
         if wide(work[at]) < COUNTS * child_count(entries, c) {
             end = list_children(entries, children, work, explicit, c, end);
+            let hyp = hyp_at(entries, explicit, e, i);
             end = finish(work, c, statement, hyp, end);
         } else {
+            let hyp = hyp_at(entries, explicit, e, i);
             end = list_single(work, c, statement, hyp, end);
         }
-        k += 1;
+        i += 1;
     }
     end
 }
