@@ -1,6 +1,6 @@
-/* Times the operations of the library on one table file over the C interface: `bench FILE`. Built and run by tests/bench.
- * A line for each operation: its name, then nanoseconds of the best of several batches; `check` by itself, and each other operation
- * with the table's check taken off. Operations that the library does not have yet are left out. */
+/* Times the operations of the library on one table file over the C interface: `bench FILE` times all but the check, `bench FILE check`
+ * the check. Built and run by tests/bench, once with the library as it is and once with a check that answers 0 at once.
+ * A line for each operation: its name, then nanoseconds of the best of several batches; for a replay also what it read and made. */
 #include <stdbool.h>
 #include <stdint.h>
 #include <stdio.h>
@@ -15,11 +15,6 @@ uint32_t bulonkeri_distances(TABLE, uint16_t *, size_t, uint64_t *);
 uint32_t bulonkeri_packed_list(TABLE, bool, uint32_t *, size_t, uint32_t *, size_t, uint64_t *);
 uint32_t bulonkeri_normal_list(TABLE, bool, uint32_t *, size_t, uint32_t *, size_t, uint64_t *);
 uint32_t bulonkeri_replay(TABLE, const uint32_t *, size_t, uint32_t *, size_t, uint32_t *, size_t, uint32_t *, size_t, uint64_t *, uint64_t *);
-#pragma weak bulonkeri_replay
-#pragma weak bulonkeri_parents
-#pragma weak bulonkeri_distances
-#pragma weak bulonkeri_packed_list
-#pragma weak bulonkeri_normal_list
 
 static uint32_t *words; static uint8_t *labels; static size_t words_n, labels_n;
 static uint32_t *work, *out; static uint16_t *out16; static size_t work_n, out_n = 5000000;
@@ -39,11 +34,11 @@ static uint32_t run_replay(void) {
 
 static double now(void) { struct timespec t; clock_gettime(CLOCK_MONOTONIC, &t); return t.tv_sec * 1e9 + t.tv_nsec; }
 
-/* The best of nine batches, each of about ten milliseconds. */
+/* The best of nine batches of about ten milliseconds each; of two calls, where one takes longer than a fifth of a second. */
 static double best(uint32_t (*run)(void), uint32_t *number) {
-    double begin = now(); *number = run(); double one = now() - begin, least = 1e18;
+    double begin = now(); *number = run(); double one = now() - begin, least = one;
     long many = one > 1e7 ? 1 : (long)(1e7 / (one + 1)) + 1;
-    for (int batch = 0; batch < 9; batch++) {
+    for (int batch = 0; batch < (one > 2e8 ? 1 : 9); batch++) {
         begin = now();
         for (long i = 0; i < many; i++) *number = run();
         double each = (now() - begin) / many;
@@ -52,25 +47,25 @@ static double best(uint32_t (*run)(void), uint32_t *number) {
     return least;
 }
 
-static void show_replay(const char *name, uint32_t (*list)(void), double check) {
+static void show_replay(const char *name, uint32_t (*list)(void)) {
     if (list()) return;
     steps_n = written; steps = malloc(4 * steps_n + 1); memcpy(steps, out, 4 * steps_n);
     stack_n = 2 * (steps_n / 5); stack = malloc(4 * stack_n + 1);
     entries = malloc(12 * (size_t)words[2] + 1); children = malloc(4 * (size_t)words[3] + 5);
     uint32_t number; double ns = best(run_replay, &number);
     if (number) printf("%s refused %u\n", name, number);
-    else printf("%s %.0f (%zu steps, %lu entries)\n", name, ns - check, steps_n / 5, (unsigned long)written / 3);
+    else printf("%s %.0f (%zu steps, %lu entries)\n", name, ns, steps_n / 5, (unsigned long)written / 3);
     free(steps); free(stack); free(entries); free(children);
 }
 
-static void show(const char *name, uint32_t (*run)(void), double check) {
+static void show(const char *name, uint32_t (*run)(void)) {
     uint32_t number; double ns = best(run, &number);
     if (number) printf("%s refused %u\n", name, number);
-    else printf("%s %.0f\n", name, ns - check);
+    else printf("%s %.0f\n", name, ns);
 }
 
 int main(int count, char **arguments) {
-    if (count != 2) { fprintf(stderr, "usage: bench FILE\n"); return 2; }
+    if (count != 2 && count != 3) { fprintf(stderr, "usage: bench FILE [check]\n"); return 2; }
     FILE *file = fopen(arguments[1], "rb");
     uint32_t k;
     if (!file || fread(&k, 4, 1, file) != 1) { fprintf(stderr, "cannot read %s\n", arguments[1]); return 2; }
@@ -79,13 +74,12 @@ int main(int count, char **arguments) {
     labels_n = fread(labels, 1, 1 << 21, file);
     work_n = 8 * ((size_t)words[0] + words[2] + words[3] + 1);
     work = calloc(work_n, 4); out = calloc(out_n, 4); out16 = calloc(out_n, 2);
-    uint32_t number; double check = best(run_check, &number);
-    printf("check %.0f\n", check);
-    if (bulonkeri_parents) show("parents", run_parents, check);
-    if (bulonkeri_distances) show("dist", run_distances, check);
-    if (bulonkeri_packed_list) show("packed", run_packed, check);
-    if (bulonkeri_normal_list) show("normal", run_normal, check);
-    if (bulonkeri_replay && bulonkeri_packed_list) show_replay("replay-packed", run_packed, check);
-    if (bulonkeri_replay && bulonkeri_normal_list) show_replay("replay-normal", run_normal, check);
+    if (count == 3) { show("check", run_check); return 0; }
+    show("parents", run_parents);
+    show("dist", run_distances);
+    show("packed", run_packed);
+    show("normal", run_normal);
+    show_replay("replay-packed", run_packed);
+    show_replay("replay-normal", run_normal);
     return 0;
 }

@@ -1,7 +1,12 @@
-"""Tables for tests/bench: `bench_tables.py STATEMENTS ENTRIES` writes a random table file to standard output, the same each time.
+"""Tables for tests/bench: `bench_tables.py KIND STATEMENTS ENTRIES` writes a table file to standard output, the same each time.
 
-Entries use statements with up to four hypotheses; children are drawn from the fifty entries before their parent, so that many entries
-are shared. A table whose normal list would pass a million steps is drawn again with fewer children."""
+random  Entries use statements with up to four hypotheses; children are drawn from the fifty entries before their parent, so that many
+        are shared, and most are not reached from QED. The normal list stays under a million steps.
+chain   Every entry but the leaves has the one before it as first child and a leaf or an earlier entry as second: all are reached, and
+        the walk is as deep as the table is long. The normal list is mostly too long.
+spine   All entries are reached and the normal list has just under a million steps: a spine each of whose entries has one of a row of
+        trees of growing size as second child.
+late    The same, with most entries in a chain that is listed first, so that the trees stand late among the entries."""
 import random
 import struct
 import sys
@@ -62,6 +67,56 @@ def table(s, n, most, seed):
     return encode(statements, entries, theorem, qed)
 
 
+def binary(draw, s, leaves):
+    """Leaves, the theorem, and statements with two hypotheses."""
+    taken = set()
+    made = [(1, label(draw, taken), []) for _ in range(leaves)] + [(0, label(draw, taken), list(range(leaves)))]
+    return made + [(0, label(draw, taken), [0, 1]) for _ in range(s - leaves - 1)]
+
+
+def chain(s, n, seed):
+    draw, leaves = random.Random(seed), 5
+    entries = [(k, []) for k in range(leaves)]
+    while len(entries) < n:
+        e = len(entries)
+        second = draw.randrange(e) if draw.random() < 0.3 else draw.randrange(leaves)
+        entries.append((draw.randrange(leaves + 1, s), [e - 1, second]))
+    return encode(binary(draw, s, leaves), entries, leaves, n - 1)
+
+
+def spine(s, n, block, seed, most=1000000):
+    """The first `block` entries are a chain with leaves; then a row of trees; then the spine."""
+    draw, leaves = random.Random(seed), 5
+    entries, sizes = [(k, []) for k in range(leaves)], [1] * leaves
+
+    def add(first, second):
+        entries.append((draw.randrange(leaves + 1, s), [first, second]))
+        sizes.append(1 + sizes[first] + sizes[second])
+        return len(entries) - 1
+
+    last = 0
+    while len(entries) < block:
+        last = add(last, draw.randrange(leaves))
+    row, tree, step = [], 1, 1
+    while sizes[tree] < 2 * most // (n - len(entries)):
+        tree = add(tree, step)
+        row.append(tree)
+        if len(row) % 30 == 0:
+            step = tree
+    while len(entries) < n:
+        left = n - len(entries)
+        budget = most - sizes[last] - 2 * left
+        within = [t for t in row if sizes[t] * left <= budget]
+        last = add(last, draw.choice(within[-3:]) if within else draw.randrange(leaves))
+    return encode(binary(draw, s, leaves), entries, leaves, n - 1)
+
+
 if __name__ == "__main__":
-    words, labels = table(int(sys.argv[1]), int(sys.argv[2]), 3, 1)
+    kind, s, n = sys.argv[1], int(sys.argv[2]), int(sys.argv[3])
+    words, labels = {
+        "random": lambda: table(s, n, 3, 1),
+        "chain": lambda: chain(s, n, 7),
+        "spine": lambda: spine(s, n, 0, 1),
+        "late": lambda: spine(s, n, n - 400, 1),
+    }[kind]()
     sys.stdout.buffer.write(struct.pack("<%dI" % (len(words) + 1), len(words), *words) + labels)

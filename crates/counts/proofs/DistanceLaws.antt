@@ -4,7 +4,7 @@ use mathlib.Core.Path.{_≡_, refl, ap}
 use mathlib.Core.List.{List, [], _∷_}
 use Prim.Native.Nat.{ℕ, zero, suc, _+_, _-_, _≤_, _<_, min}
 use native.Mathlib.Omega.{arith}
-use lib.ListN.{length, getD, set, replicate}
+use lib.ListN.{length, getD, set, replicate, length-set, length-replicate}
 use lib.Seq.{set-getD}
 use Rattle.defs.specs.Graph.{Graph}
 use Rattle.defs.specs.Counts.{unreached, lower, descend, distances}
@@ -69,7 +69,7 @@ unfolding descend
 descend-done g zero ds h = refl
 descend-done g (suc e) ds h = absurd (omega arith)
 
--- before the pass QED alone is reached
-pub distances-start : (g : Graph) (n q : ℕ) (ds : List ℕ) → ds ≡ replicate n unreached → descend g n (set ds q 0) ≡ distances g n q
+-- before the pass QED alone is reached, at 0
+pub distances-start : (g : Graph) (n q v : ℕ) (ds : List ℕ) → v ≡ 0 → ds ≡ replicate n unreached → descend g (length (set ds q v)) (set ds q v) ≡ distances g n q
 unfolding distances
-distances-start g n q ds e = rw e
+distances-start g n q v ds zero-at e = rw (length-set ds q v, zero-at, e, length-replicate n unreached)

@@ -1,7 +1,7 @@
 // The normal list of a table: tests 1 to 7, 14, 13, 15.
+use crate::answers::ended;
 use crate::answers::refused;
 use counts::sizes::count_normal;
-use slices::fill::fill;
 use table::EntryNo;
 use table::Written;
 use table::header::read_header;
@@ -16,18 +16,18 @@ use walk::room::working_words;
 use walk::steps::STEP_WORDS;
 use walk::steps::put_step;
 ghost use mathlib.Core.Path.{_≡_};
+ghost use mathlib.Core.List.{[], _∷_};
 ghost use mathlib.Core.Bool.{false};
 ghost use Prim.Native.Nat.{_*_, _≤_, _<_};
 ghost use lib.ListN.{length};
 ghost use Rattle.laws.specs.Tools.{over};
 ghost use Rattle.defs.specs.Graph.{graphIn};
 ghost use Rattle.defs.specs.Steps.{flat, normalSteps};
-ghost use Rattle.defs.specs.Outcome.{stepListOutcome};
+ghost use Rattle.defs.specs.Outcome.{answerOne, stepListOutcome};
 ghost use Rattle.defs.specs.Sections.{EntriesOk};
 ghost use Rattle.counts.specs.Sizes.{cappedSize};
 ghost use Rattle.walk.specs.Entries.{size, Entries};
 ghost use Rattle.walk.specs.Normal.{pairSize};
-ghost use Rattle.lists.specs.Answers.{written};
 
 // The most steps of a normal list.
 pub const MAX_NORMAL_STEPS: u32 = 1000000;
@@ -90,7 +90,7 @@ pub fn normal_list(
     work: &mut [u32],
     out: &mut [u32],
 ) -> Written
-    ensures { λ r. ⌜ written (r .number) (r .length) (now (out .exit)) (now (work .exit))
+    ensures { λ r. ⌜ answerOne (r .number) (r .length) (now (work .exit) ∷ []) (now (out .exit))
         ≡ stepListOutcome (now (words .entry)) (now (labels .entry)) false explicit (now (work .entry)) (now (out .entry)) ⌝ }
 {
     let number = check(words, labels);
@@ -105,15 +105,12 @@ pub fn normal_list(
     let children = child_section(words);
     let steps = count_steps(entries, children, wide(header.entries), header.qed, work);
     if MAX_NORMAL_STEPS < steps {
-        fill(work, 0);
-        return refused(13);
+        return ended(work, 13, 0);
     }
     let length = STEP_WORDS * wide(steps);
     if out.len() < length {
-        fill(work, 0);
-        return refused(15);
+        return ended(work, 15, 0);
     }
     write_normal(entries, children, work, explicit, header.qed, out);
-    fill(work, 0);
-    Written { number: 0, length }
+    ended(work, 0, length)
 }

@@ -1,7 +1,7 @@
 // The packed list of a table: tests 1 to 7, 14, 15.
+use crate::answers::ended;
 use crate::answers::refused;
 use slices::copy::copy_to;
-use slices::fill::fill;
 use table::Written;
 use table::header::read_header;
 use table::numbers::wide;
@@ -11,9 +11,9 @@ use table_check::check;
 use walk::packed::pack;
 use walk::room::working_words;
 ghost use mathlib.Core.Path.{_≡_};
+ghost use mathlib.Core.List.{[], _∷_};
 ghost use mathlib.Core.Bool.{true};
-ghost use Rattle.defs.specs.Outcome.{stepListOutcome};
-ghost use Rattle.lists.specs.Answers.{written};
+ghost use Rattle.defs.specs.Outcome.{answerOne, stepListOutcome};
 
 // The steps are walked into the working slice, so that 15 is known before the output is touched.
 pub fn packed_list(
@@ -23,7 +23,7 @@ pub fn packed_list(
     work: &mut [u32],
     out: &mut [u32],
 ) -> Written
-    ensures { λ r. ⌜ written (r .number) (r .length) (now (out .exit)) (now (work .exit))
+    ensures { λ r. ⌜ answerOne (r .number) (r .length) (now (work .exit) ∷ []) (now (out .exit))
         ≡ stepListOutcome (now (words .entry)) (now (labels .entry)) true explicit (now (work .entry)) (now (out .entry)) ⌝ }
 {
     let number = check(words, labels);
@@ -40,10 +40,8 @@ pub fn packed_list(
     let start = wide(header.entries) + 1;
     let length = end - start;
     if out.len() < length {
-        fill(work, 0);
-        return refused(15);
+        return ended(work, 15, 0);
     }
     copy_to(&work[start..end], out, 0);
-    fill(work, 0);
-    Written { number: 0, length }
+    ended(work, 0, length)
 }

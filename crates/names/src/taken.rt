@@ -1,6 +1,7 @@
 // Which numbers are labels in the table.
 use crate::number::is_decimal;
 use crate::number::number_of;
+use slices::fill::fill;
 use table::StatementNo;
 use table::limits::STATEMENT_WORDS;
 use table::statements::label_length;
@@ -8,21 +9,9 @@ use table::statements::label_start;
 ghost use mathlib.Core.Path.{_≡_};
 ghost use Prim.Native.Nat.{_≤_};
 ghost use lib.ListN.{length};
-ghost use Rattle.laws.specs.Tools.{zeroed};
 ghost use Rattle.defs.specs.Sections.{StatementsOk};
 ghost use Rattle.names.specs.Decimals.{cap};
 ghost use Rattle.names.specs.Taken.{statementsIn, withLabel, takenBy};
-
-// The slice may hold anything at first.
-fn clear(taken: &mut [u32])
-    ensures { λ _. ⌜ now (taken .exit) ≡ zeroed (now (taken .entry)) ⌝ }
-{
-    let mut i: usize = 0;
-    while i < taken.len() {
-        taken[i] = 0;
-        i += 1;
-    }
-}
 
 // 1 at the number that this label is, if it is one.
 fn mark_label(label: &[u8], taken: &mut [u32])
@@ -45,7 +34,7 @@ pub fn mark_taken(statements: &[u32], labels: &[u8], taken: &mut [u32])
     ensures { λ _. ⌜ now (taken .exit)
         ≡ takenBy (now (statements .entry)) (now (labels .entry)) (statementsIn (now (statements .entry))) (length (now (taken .entry))) ⌝ }
 {
-    clear(taken);
+    fill(taken, 0); // the slice may hold anything at first
     let count = (statements.len() / STATEMENT_WORDS) as u32;
     let mut k: u32 = 0;
     while k < count {

@@ -2,4 +2,4 @@
 pub mod StepLaws
 mod PackedLaws
 mod NormalLaws
-mod MarkLaws
+mod BeginLaws

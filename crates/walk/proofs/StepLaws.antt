@@ -27,15 +27,15 @@ of-parent h s i e = rw e (refl, refl)
 
 -- ---- the five stores
 
-pub five-stores : (l : List ℕ) (i a b c d e : ℕ) → i + stepSize ≤ length l
-    → set (set (set (set (set l i a) (i + 1) b) (i + 2) c) (i + 3) d) (i + 4) e ≡ withStep l i (step a b c d e)
+pub five-stores : (l : List ℕ) (i a b c d e parent index : ℕ) → i + stepSize ≤ length l → d ≡ parent → e ≡ index
+    → set (set (set (set (set l i a) (i + 1) b) (i + 2) c) (i + 3) d) (i + 4) e ≡ withStep l i (step a b c parent index)
 unfolding withStep stepWords
-five-stores l i a b c d e h =
+five-stores l i a b c d e parent index h is-parent is-index =
     let e1 : i + 1 ≡ suc i = omega arith in
     let e2 : i + 2 ≡ suc (suc i) = omega arith in
     let e3 : i + 3 ≡ suc (suc (suc i)) = omega arith in
     let e4 : i + 4 ≡ suc (suc (suc (suc i))) = omega arith in
-    rw (e1, e2, e3, e4) (sets-eq (a ∷ b ∷ c ∷ d ∷ e ∷ []) l i h)
+    rw (e1, e2, e3, e4, ← is-parent, ← is-index) (sets-eq (a ∷ b ∷ c ∷ d ∷ e ∷ []) l i h)
 
 -- ---- what stands in the list afterwards
 

@@ -1,11 +1,12 @@
 // The parent hypothesis of a step, and the two words that say it in an explicit list.
 use table::EntryNo;
 use table::StatementNo;
+use table::entries::child_start;
 use table::entries::statement_of;
 ghost use mathlib.Core.Path.{_≡_};
-ghost use Prim.Native.Nat.{_≤_};
+ghost use Prim.Native.Nat.{_-_, _≤_};
 ghost use Rattle.table.specs.Records.{EntryIn};
-ghost use Rattle.defs.specs.Table.{maxWord, entryStmtIn};
+ghost use Rattle.defs.specs.Table.{maxWord, entryStmtIn, childStartIn};
 ghost use Rattle.defs.specs.Steps.{parentWord, indexWord};
 ghost use Rattle.walk.specs.Hyps.{parentOf, indexOf};
 
@@ -50,4 +51,17 @@ pub fn child_hyp(entries: &[u32], explicit: bool, e: EntryNo, index: u32) -> Par
     } else {
         ParentHyp::Root
     }
+}
+
+// What the child at place i of the child section carries, one of entry e's.
+pub fn hyp_at(entries: &[u32], explicit: bool, e: EntryNo, i: usize) -> ParentHyp
+    requires { ⌜ EntryIn (now entries) (e .0) ⌝ }
+    requires { ⌜ (childStartIn (now entries) (e .0) ≤ i) × (i ≤ maxWord) ⌝ }
+    ensures { λ r. ⌜ (parentOf r ≡ parentWord explicit (entryStmtIn (now (entries .entry)) (e .0))) × (indexOf r ≡ indexWord explicit (i - childStartIn (now (entries .entry)) (e .0))) ⌝ }
+{
+    if explicit {
+        let index = i - child_start(entries, e);
+        return child_hyp(entries, explicit, e, index as u32);
+    }
+    ParentHyp::Root
 }

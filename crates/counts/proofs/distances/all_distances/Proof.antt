@@ -95,8 +95,7 @@ returns c =
     let p = c .before .loop in
     let s = c .before .before .before .before .before .before .before .before .before .before in
     let fill = c .before .before .before .before .before .fill-short in
-    let n : length (set (fill .last .0) (s .args .qed .0) 0) ≡ length (s .args .out .now) = length-set (fill .last .0) (s .args .qed .0) 0 ∙ fill .kept .0 in
-    sym (descend-done _ (p .e) (p .out) (c .loop-test .left)) ∙ p .inv .1 .1 ∙ rw n (distances-start _ _ _ _ (fill .ensures))
+    sym (descend-done _ (p .e) (p .out) (c .loop-test .left)) ∙ p .inv .1 .1 ∙ distances-start _ _ (s .args .qed .0) _ (fill .last .0) (omega arith) (fill .ensures)
 
 pub all-distances-spec : {M : Type 1} → statement M
 all-distances-spec =

@@ -1,61 +1,49 @@
-use mathlib.Core.Path.{_≡_}
-use Prim.Native.Nat.{_-_}
-use native.Mathlib.Omega.{arith}
-use Rattle.listing.proofs.ClearLaws.{ClearedTo, none-cleared, turn-clear}
+-- The part is lent whole and filled; what that leaves of the slice is the law `cleared`.
+-- The part is as long as the two places are apart.
+use mathlib.Core.Path.{_≡_, ap, _∙_}
+use Prim.Native.Nat.{ℕ, _-_}
+use lib.ListN.{length, replicate}
+use borrow.Rule.Slice.PartMut.{midOf, mid-len}
+use Rattle.listing.proofs.ClearLaws.{cleared}
+use borrow.Author.Needs.{needs}
 use Rattle.listing.proofs.clear.clear.Statement.{statement}
 use Rattle.listing.proofs.clear.clear.Tie as tie
 use Rattle.listing.proofs.clear.clear.Reads as reads
 use Rattle.listing.proofs.clear.clear.Lts as lts
+use Rattle.slices.proofs.fill.fill.Reads as fill-reads
 
-abbrev Inv-loop : tie.InvT-loop
-Inv-loop work₀ from to at₀ work at = ClearedTo from to at work₀ work
+-- src/clear.rt:9:10
+mul-fill : tie.Need-mul-fill
+mul-fill c = search needs
 
-abbrev μ-loop : tie.MeasureT-loop
-μ-loop work₀ from to at₀ work at = to - at
+-- src/clear.rt:9:10
+sub-fill : tie.Need-sub-fill
+sub-fill c = search needs
 
--- src/clear.rt:9:5
-loop-holds : tie.Need-loop-holds Inv-loop μ-loop
-loop-holds c = none-cleared _ _ _ (c .pre .0)
+-- src/clear.rt:9:10
+part-fill-start : tie.Need-part-fill-start
+part-fill-start c = search needs
 
--- src/clear.rt:10:9
-mul-work : tie.Need-mul-work Inv-loop μ-loop
-mul-work c = omega arith
-
--- src/clear.rt:10:9
-slice-write-work : tie.Need-slice-write-work Inv-loop μ-loop
-slice-write-work c = omega arith
-
--- src/clear.rt:11:9
-add-at : tie.Need-add-at Inv-loop μ-loop
-add-at c = omega arith
+-- src/clear.rt:9:10
+part-fill-end : tie.Need-part-fill-end
+part-fill-end c = search needs
 
 -- src/clear.rt:9:5
-loop-less : tie.Need-loop-less Inv-loop μ-loop
-loop-less c = omega arith
+fill-requires : tie.Need-fill-requires
+fill-requires c κs = search needs
 
--- src/clear.rt:9:5
-loop-again : tie.Need-loop-again Inv-loop μ-loop
-loop-again c = turn-clear _ _ _ _ _ (c .before .before .pre .1) (c .before .loop .inv) (c .loop-test .taken)
+-- src/clear.rt:5:1
+same-length : tie.Need-same-length
+same-length c = search needs
 
--- src/clear.rt:4:1
-same-length : tie.Need-same-length Inv-loop μ-loop
-same-length c = c .before .loop .inv .same-length
-
--- src/clear.rt:4:1
-returns : tie.Need-returns Inv-loop μ-loop
-returns c = let e : c .before .loop .at ≡ c .before .before .args .to = omega (arith, c .before .loop .inv .high) in rw e at (c .before .loop .inv .cleared)
+-- src/clear.rt:5:1
+returns : tie.Need-returns
+returns c =
+    let s = c .before .before .before .before .before in
+    let long : length (midOf (s .args .from) (s .args .to - s .args .from) (s .args .work .now)) ≡ s .args .to - s .args .from = mid-len (s .args .from) (s .args .to) (s .args .work .now) (s .pre .1) in
+    cleared (s .args .from) (s .args .to) (s .args .work .now) (c .before .before .fill .last .0) (s .pre .0) (s .pre .1) (c .before .before .fill .ensures ∙ ap (λ (n : ℕ). replicate n 0) long)
 
 pub clear-spec : {M : Type 1} → statement M
 clear-spec =
     tie.close
-    (tie.spec
-    Inv-loop
-    μ-loop
-    loop-holds
-    mul-work
-    slice-write-work
-    add-at
-    loop-less
-    loop-again
-    same-length
-    returns)
+    (tie.spec mul-fill sub-fill part-fill-start part-fill-end fill-requires same-length returns)

@@ -1,3 +1,5 @@
+-- The word of QED among the counted sizes is its size.
+-- It lies within them, since QED is an entry.
 use Rattle.counts.specs.Sizes.{size-in}
 use borrow.Author.Needs.{needs}
 use Rattle.lists.proofs.normal.count_steps.Statement.{statement}

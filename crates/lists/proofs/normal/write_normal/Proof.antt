@@ -1,3 +1,5 @@
+-- The invariant `Listing`: some steps stand at the front of the output, and the stack has the rest to come.
+-- A turn takes the next step; when none is left the output holds all.
 use mathlib.Core.Path.{_≡_, refl, sym, ap, _∙_}
 use mathlib.Core.List.{List, []}
 use Prim.Native.Nat.{ℕ, _+_, _-_, _≤_}

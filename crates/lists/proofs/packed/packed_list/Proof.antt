@@ -1,3 +1,5 @@
+-- `packed_list` meets its contract: each return is one law of AnswerLaws, at the test that it stands under.
+-- What the walk left in the working slice, `packed`, is named once, and the later answers read it.
 use mathlib.Core.Path.{_≡_, refl, sym, ap, _∙_}
 use mathlib.Core.List.{List}
 use Prim.Native.Nat.{ℕ, _+_, _-_, _≤_, _<_}
@@ -16,9 +18,9 @@ use Rattle.lists.proofs.packed.packed_list.Statement.{statement}
 use Rattle.lists.proofs.packed.packed_list.Tie as tie
 use Rattle.lists.proofs.packed.packed_list.Reads as reads
 use Rattle.lists.proofs.packed.packed_list.Lts as lts
+use Rattle.lists.proofs.answers.ended.Reads as ended-reads
 use Rattle.lists.proofs.answers.refused.Reads as refused-reads
 use Rattle.slices.proofs.copy.copy_to.Reads as copy-to-reads
-use Rattle.slices.proofs.fill.fill.Reads as fill-reads
 use Rattle.table.proofs.header.read_header.Reads as read-header-reads
 use Rattle.table.proofs.numbers.wide.Reads as wide-reads
 use Rattle.table.proofs.sections.child_section.Reads as child-section-reads
@@ -101,46 +103,42 @@ sub-length : tie.Need-sub-length
 sub-length c = packed c .begins
 
 -- src/packed.rt:43:9
-fill-requires : tie.Need-fill-requires
-fill-requires c κs = search needs
+ended-requires : tie.Need-ended-requires
+ended-requires c κs = search needs
 
--- src/packed.rt:44:9
-refused-requires-3 : tie.Need-refused-requires-3
-refused-requires-3 c κs = search needs
-
--- src/packed.rt:44:9
+-- src/packed.rt:43:9
 same-length : tie.Need-same-length
 same-length c = search needs
 
--- src/packed.rt:44:9
+-- src/packed.rt:43:9
 returns-3 : tie.Need-returns-3
 returns-3 c =
-    let v = c .before .before .before .before .before .before in
-    no-room _ _ _ _ _ _ (good (v .before .before .before .before .before .before .before .before .before .before)) (enough (v .before .before .before .before .before .before .before .before)) refl _ _ _ (c .refused3 .ensures .0) (c .refused3 .ensures .1) (wiped v _ (c .before .before .before .fill .ensures)) (omega (arith, packed v .long, c .before .before .before .before .before .if3 .taken))
+    let v = c .before .before .before .before .before in
+    no-room _ _ _ _ _ _ (good (v .before .before .before .before .before .before .before .before .before .before)) (enough (v .before .before .before .before .before .before .before .before)) refl _ _ _ (c .before .before .ended .ensures .0 .0) (c .before .before .ended .ensures .0 .1) (wiped v _ (c .before .before .ended .ensures .1)) (omega (arith, packed v .long, c .before .before .before .before .if3 .taken))
 
--- src/packed.rt:46:13
+-- src/packed.rt:45:13
 mul-copy-to : tie.Need-mul-copy-to
 mul-copy-to c = search needs
 
--- src/packed.rt:46:13
+-- src/packed.rt:45:13
 sub-copy-to : tie.Need-sub-copy-to
 sub-copy-to c = packed (c .before) .begins
 
--- src/packed.rt:46:13
+-- src/packed.rt:45:13
 part-copy-to-start : tie.Need-part-copy-to-start
 part-copy-to-start c = packed (c .before .before) .begins
 
--- src/packed.rt:46:13
+-- src/packed.rt:45:13
 part-copy-to-end : tie.Need-part-copy-to-end
 part-copy-to-end c = omega (arith, packed (c .before .before) .ends, enough (c .before .before .before .before .before .before .before .before .before .before), c .before .before .before .before .before .pack .kept .1 .1 .0)
 
--- src/packed.rt:46:5
+-- src/packed.rt:45:5
 copy-to-requires : tie.Need-copy-to-requires
 copy-to-requires c κs = search needs
 
--- src/packed.rt:47:5
-fill-requires-2 : tie.Need-fill-requires-2
-fill-requires-2 c κs = search needs
+-- src/packed.rt:46:5
+ended-requires-2 : tie.Need-ended-requires-2
+ended-requires-2 c κs = search needs
 
 -- src/packed.rt:19:1
 same-length-2 : tie.Need-same-length-2
@@ -154,7 +152,7 @@ same-length-3 c = search needs
 returns-4 : tie.Need-returns-4
 returns-4 c =
     let v = c .before .before .before .before .before .before .before .before .before .before .before in
-    done _ _ _ _ _ _ (good (v .before .before .before .before .before .before .before .before .before .before)) (enough (v .before .before .before .before .before .before .before .before)) refl _ _ _ (packed v .long) (wiped v _ (c .before .before .fill2 .ensures)) (copied _ _ _ _ (packed v .front) (c .before .before .before .before .before .before .copy-to .ensures)) (omega (arith, packed v .long, c .before .before .before .before .before .before .before .before .before .before .if3 .left))
+    done _ _ _ _ _ _ (good (v .before .before .before .before .before .before .before .before .before .before)) (enough (v .before .before .before .before .before .before .before .before)) refl _ _ _ _ (c .before .before .ended2 .ensures .0 .0) (c .before .before .ended2 .ensures .0 .1 ∙ packed v .long) (wiped v _ (c .before .before .ended2 .ensures .1)) (copied _ _ _ _ (packed v .front) (c .before .before .before .before .before .before .copy-to .ensures)) (omega (arith, packed v .long, c .before .before .before .before .before .before .before .before .before .before .if3 .left))
 
 pub packed-list-spec : {M : Type 1} → statement M
 packed-list-spec =
@@ -173,8 +171,7 @@ packed-list-spec =
     wide-requires
     add-start
     sub-length
-    fill-requires
-    refused-requires-3
+    ended-requires
     same-length
     returns-3
     mul-copy-to
@@ -182,7 +179,7 @@ packed-list-spec =
     part-copy-to-start
     part-copy-to-end
     copy-to-requires
-    fill-requires-2
+    ended-requires-2
     same-length-2
     same-length-3
     returns-4)

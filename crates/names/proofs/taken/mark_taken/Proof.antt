@@ -24,16 +24,16 @@ inside p = p .before .before .before .before .before .before .before .before .be
 
 -- the slice keeps its length
 kept : (p : tie.At-loop Inv-loop μ-loop) → length (p .loop .taken) ≡ length (p .before .before .before .before .before .before .before .before .args .taken .now)
-kept p = ap length (p .loop .inv .1) ∙ taken-length _ _ _ _ ∙ p .before .before .before .clear .kept .0
+kept p = ap length (p .loop .inv .1) ∙ taken-length _ _ _ _ ∙ p .before .before .before .fill .kept .0
 
-clear-requires : tie.Need-clear-requires Inv-loop μ-loop
-clear-requires c κs = search needs
+fill-requires : tie.Need-fill-requires Inv-loop μ-loop
+fill-requires c κs = search needs
 
 cast-count : tie.Need-cast-count Inv-loop μ-loop
 cast-count c = omega arith
 
 loop-holds : tie.Need-loop-holds Inv-loop μ-loop
-loop-holds c = (omega arith, taken-none _ _ (c .before .before .before .before .before .before .before .args .taken .now) _ (c .before .before .clear .ensures))
+loop-holds c = (omega arith, taken-none _ _ (c .before .before .before .before .before .before .before .args .taken .now) _ (c .before .before .fill .ensures))
 
 label-start-requires : tie.Need-label-start-requires Inv-loop μ-loop
 label-start-requires c κs = omega arith
@@ -73,7 +73,7 @@ same-length c = kept (c .before)
 returns : tie.Need-returns Inv-loop μ-loop
 returns c =
     let z : c .before .loop .k ≡ statementsIn (c .before .before .before .before .before .before .before .before .before .args .statements .now) = omega arith in
-    let l : length (c .before .before .before .before .clear .last .0) ≡ length (c .before .before .before .before .before .before .before .before .before .args .taken .now) = c .before .before .before .before .clear .kept .0 in
+    let l : length (c .before .before .before .before .fill .last .0) ≡ length (c .before .before .before .before .before .before .before .before .before .args .taken .now) = c .before .before .before .before .fill .kept .0 in
     rw (z, l) at (c .before .loop .inv .1)
 
 pub mark-taken-spec : {M : Type 1} → statement M
@@ -82,7 +82,7 @@ mark-taken-spec =
     (tie.spec
     Inv-loop
     μ-loop
-    clear-requires
+    fill-requires
     cast-count
     loop-holds
     label-start-requires

@@ -1,3 +1,5 @@
+-- Each case of `explicit` is one case of the words that a step carries.
+-- The parent is the entry's own statement.
 use Rattle.walk.specs.Hyps.{parentOf, indexOf}
 use Rattle.defs.specs.Steps.{parentWord}
 use mathlib.Core.Path.{refl, ap}

@@ -1,3 +1,5 @@
+-- A parent hypothesis is the root or a parent with an index, and each case is a law of StepLaws.
+-- The parent word has room for one more than the statement.
 use Rattle.walk.proofs.StepLaws.{at-root, of-parent}
 use native.Mathlib.Omega.{arith}
 use borrow.Author.Needs.{needs}

@@ -1,3 +1,5 @@
+-- Two stores make the first pair of the stack: the root, and its first child to come.
+-- What is left to come is then the whole normal list.
 use Rattle.walk.proofs.NormalLaws.{begins}
 use lib.ListN.{length-set}
 use native.Mathlib.Omega.{arith}

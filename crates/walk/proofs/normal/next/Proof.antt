@@ -1,3 +1,5 @@
+-- The invariant: what is left to come is as it was at the start. The measure: the entry on top, which falls with each push.
+-- A turn pushes the next child (`push`), a return takes the step of the top pair (`popped`).
 use mathlib.Core.Path.{_≡_, refl, sym, ap, ap₂, _∙_}
 use mathlib.Core.List.{List}
 use Prim.Native.Nat.{ℕ, _+_, _*_, _-_, _<_, _≤_}

@@ -1,3 +1,5 @@
+-- At the root no words are carried; elsewhere the pair below is the parent, whose next child is one past this one.
+-- That pair has begun, so one can be taken off.
 use Rattle.walk.proofs.NormalLaws.{root-parent, root-index, below-parent, below-index}
 use Rattle.walk.specs.Normal.{pairSize, entryOn, nextOn}
 use Rattle.walk.specs.Entries.{size}

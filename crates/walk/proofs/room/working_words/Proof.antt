@@ -1,3 +1,5 @@
+-- The words asked for are the definition's, and their number does not overflow.
+-- The header's limits bound each term.
 use Rattle.defs.specs.Refusals.{need32}
 use native.Mathlib.Omega.{arith}
 use borrow.Author.Needs.{needs}

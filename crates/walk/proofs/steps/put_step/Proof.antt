@@ -1,3 +1,5 @@
+-- Five stores one after another are the words of a step.
+-- The last two are what `hyp_words` answers.
 use Rattle.walk.proofs.StepLaws.{five-stores}
 use lib.ListN.{length-set}
 use mathlib.Core.Path.{_∙_}
@@ -75,7 +77,7 @@ same-length c = search needs
 
 -- src/steps.rt:14:1
 returns : tie.Need-returns
-returns c = rw (c .hyp-words .ensures .0, c .hyp-words .ensures .1) (five-stores _ _ _ _ _ _ _ (c .before .before .pre .0))
+returns c = five-stores _ _ _ _ _ _ _ _ _ (c .before .before .pre .0) (c .hyp-words .ensures .0) (c .hyp-words .ensures .1)
 
 pub put-step-spec : {M : Type 1} → statement M
 put-step-spec =
