@@ -1,6 +1,7 @@
 /* Times the operations of the library on one table file over the C interface: `bench FILE` times all but the check, `bench FILE check`
- * the check. Built and run by tests/bench, once with the library as it is and once with a check that answers 0 at once.
- * A line for each operation: its name, then nanoseconds of the best of several batches; for a replay also what it read and made. */
+ * the check, and the compressed text with it. Built and run by tests/bench, once with the library as it is and once with a check that
+ * answers 0 at once. A line for each operation: its name, then nanoseconds of the best of several batches; for a replay also what it
+ * read and made, for letters how many labels are listed, for a text how many bytes a microsecond it is written at. */
 #include <stdbool.h>
 #include <stdint.h>
 #include <stdio.h>
@@ -14,6 +15,8 @@ uint32_t bulonkeri_parents(TABLE, uint32_t *, size_t, uint64_t *);
 uint32_t bulonkeri_distances(TABLE, uint16_t *, size_t, uint64_t *);
 uint32_t bulonkeri_packed_list(TABLE, bool, uint32_t *, size_t, uint32_t *, size_t, uint64_t *);
 uint32_t bulonkeri_normal_list(TABLE, bool, uint32_t *, size_t, uint32_t *, size_t, uint64_t *);
+uint32_t bulonkeri_letters(TABLE, uint32_t, uint32_t, uint32_t, uint32_t *, size_t, uint16_t *, size_t, uint32_t *, size_t, uint8_t *, size_t, uint64_t *, uint64_t *);
+uint32_t bulonkeri_text(TABLE, uint32_t, uint32_t, uint32_t, uint32_t, uint32_t *, size_t, uint16_t *, size_t, uint8_t *, size_t, uint64_t *);
 uint32_t bulonkeri_replay(TABLE, const uint32_t *, size_t, uint32_t *, size_t, uint32_t *, size_t, uint32_t *, size_t, uint64_t *, uint64_t *);
 
 static uint32_t *words; static uint8_t *labels; static size_t words_n, labels_n;
@@ -25,6 +28,13 @@ static uint32_t run_parents(void) { return bulonkeri_parents(words, words_n, lab
 static uint32_t run_distances(void) { return bulonkeri_distances(words, words_n, labels, labels_n, out16, out_n, &written); }
 static uint32_t run_packed(void) { return bulonkeri_packed_list(words, words_n, labels, labels_n, false, work, work_n, out, out_n, &written); }
 static uint32_t run_normal(void) { return bulonkeri_normal_list(words, words_n, labels, labels_n, false, work, work_n, out, out_n, &written); }
+
+/* The standard layout: width 79, indent 6, first position 0. */
+static uint16_t *sums; static size_t sums_n; static uint8_t *bytes; static size_t bytes_n = 100000000; static uint64_t listed; static uint32_t style;
+static uint32_t run_letters(void) {
+    return bulonkeri_letters(words, words_n, labels, labels_n, 79, 6, 0, work, work_n, sums, sums_n, out, out_n, bytes, bytes_n, &listed, &written);
+}
+static uint32_t run_text(void) { return bulonkeri_text(words, words_n, labels, labels_n, style, 79, 6, 0, work, work_n, sums, style ? 0 : sums_n, bytes, bytes_n, &written); }
 
 /* The list that the last call wrote, read back. */
 static uint32_t *steps, *stack, *entries, *children; static size_t steps_n, stack_n; static uint64_t second;
@@ -58,6 +68,19 @@ static void show_replay(const char *name, uint32_t (*list)(void)) {
     free(steps); free(stack); free(entries); free(children);
 }
 
+static void show_letters(void) {
+    uint32_t number; double ns = best(run_letters, &number);
+    if (number) printf("letters refused %u\n", number);
+    else printf("letters %.0f (%lu labels)\n", ns, (unsigned long)listed);
+}
+
+static void show_text(const char *name, uint32_t which) {
+    style = which;
+    uint32_t number; double ns = best(run_text, &number);
+    if (number) printf("%s refused %u\n", name, number);
+    else printf("%s %.0f (%lu bytes, %.0f MB/s)\n", name, ns, (unsigned long)written, 1e3 * written / ns);
+}
+
 static void show(const char *name, uint32_t (*run)(void)) {
     uint32_t number; double ns = best(run, &number);
     if (number) printf("%s refused %u\n", name, number);
@@ -74,11 +97,14 @@ int main(int count, char **arguments) {
     labels_n = fread(labels, 1, 1 << 21, file);
     work_n = 8 * ((size_t)words[0] + words[2] + words[3] + 1);
     work = calloc(work_n, 4); out = calloc(out_n, 4); out16 = calloc(out_n, 2);
-    if (count == 3) { show("check", run_check); return 0; }
+    sums_n = 75 * ((size_t)words[0] + 1); sums = calloc(sums_n, 2); bytes = calloc(bytes_n, 1);
+    if (count == 3) { show("check", run_check); show_text("text0+check", 0); return 0; }
     show("parents", run_parents);
     show("dist", run_distances);
     show("packed", run_packed);
     show("normal", run_normal);
+    show_letters();
+    show_text("text0", 0); show_text("text1", 1); show_text("text2", 2); show_text("text3", 3); show_text("text4", 4);
     show_replay("replay-packed", run_packed);
     show_replay("replay-normal", run_normal);
     return 0;
