@@ -1,2 +1,3 @@
 pub mod Styles
 pub mod Late
+pub mod Lines
