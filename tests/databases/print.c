@@ -137,7 +137,7 @@ static int print_all(FILE *source, FILE *target, Settings s) {
         write_field(target, text, (uint32_t)written);
     }
     for (int k = 1; k < REFUSALS; k++) if (counts[k]) printf("refused %d: %lu\n", k, counts[k]);
-    printf("%lu tables, %lu printed, %lu read back wrong; texts %.3f s, checks alone %.3f s\n", tables, counts[0], wrong, text_seconds, check_seconds);
+    printf("%lu tables, %lu printed, %lu read back wrong; texts %.6f s, checks alone %.6f s\n", tables, counts[0], wrong, text_seconds, check_seconds);
     return wrong != 0;
 }
 
