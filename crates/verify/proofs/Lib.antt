@@ -1,0 +1,5 @@
+mod Fits
+mod AgainLaws
+mod WalkLaws
+mod SpelledLaws
+mod WayLaws

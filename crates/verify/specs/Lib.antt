@@ -1,0 +1,4 @@
+pub mod Gave
+pub mod Verified
+pub mod Came
+pub mod Spelled
