@@ -2,3 +2,5 @@ pub mod Gave
 pub mod Verified
 pub mod Came
 pub mod Spelled
+pub mod Covered
+pub mod Agreed
