@@ -3,3 +3,4 @@ mod AgainLaws
 mod WalkLaws
 mod SpelledLaws
 mod WayLaws
+mod WipeLaws

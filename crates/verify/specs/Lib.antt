@@ -4,3 +4,4 @@ pub mod Came
 pub mod Spelled
 pub mod Covered
 pub mod Agreed
+pub mod Verification

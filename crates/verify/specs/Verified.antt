@@ -92,6 +92,11 @@ pub record Lent : Type 0 where
   pub entries : List ℕ
   pub children : List ℕ
 
+-- as a contract puts them together, in the order in which they are lent
+abbrev pub lent : (work sums packed steps list letters built kids entries children : List ℕ) → Lent
+lent work sums packed steps list letters built kids entries children =
+    record { work = work; sums = sums; packed = packed; steps = steps; list = list; letters = letters; built = built; kids = kids; entries = entries; children = children }
+
 unfoldable pub verified : (w b : List ℕ) (l : Layout) → Lent → Verdict
 verified w b l m =
     let list : Gave = packedGave w b (m .work) (m .packed) in

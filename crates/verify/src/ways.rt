@@ -10,7 +10,7 @@ use crate::walks::read_lists;
 use layout::Layout;
 ghost use mathlib.Core.Path.{_≡_};
 ghost use Rattle.layout.specs.Layouts.{layoutOf};
-ghost use Rattle.verify.specs.Verified.{decodedWay, lettersWay, verified};
+ghost use Rattle.verify.specs.Verified.{decodedWay, lettersWay, lent, verified};
 
 // The decoded list has to be the packed list, and to be read as it was.
 fn read_decoded(
@@ -99,18 +99,8 @@ pub fn read_all(
     children: &mut [u32],
 ) -> Verdict
     ensures { λ r. ⌜ r ≡ verified (now (words .entry)) (now (labels .entry)) (layoutOf layout)
-        (record {
-          work = now (work .entry);
-          sums = now (sums .entry);
-          packed = now (packed .entry);
-          steps = now (steps .entry);
-          list = now (list .entry);
-          letters = now (letters .entry);
-          built = now (built .entry);
-          kids = now (kids .entry);
-          entries = now (entries .entry);
-          children = now (children .entry);
-        }) ⌝ }
+        (lent (now (work .entry)) (now (sums .entry)) (now (packed .entry)) (now (steps .entry)) (now (list .entry))
+        (now (letters .entry)) (now (built .entry)) (now (kids .entry)) (now (entries .entry)) (now (children .entry))) ⌝ }
 {
     match read_lists(
         words,
