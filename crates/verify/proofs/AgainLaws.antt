@@ -1,6 +1,6 @@
 -- The verdict of `readAgain` at each return, from what the replay gave.
 -- Assumes nothing.
-use mathlib.Core.Path.{_≡_, refl, sym, ap}
+use mathlib.Core.Path.{_≡_, sym, ap, _∙_}
 use mathlib.Core.Logic.{_≢_}
 use mathlib.Core.Bool.{true, false}
 use mathlib.Core.List.{List}
@@ -8,9 +8,9 @@ use Prim.Native.Nat.{ℕ}
 use lib.ListN.{length, take}
 use Rattle.laws.specs.Tools.{same}
 use Rattle.laws.specs.Lists.{eqb-no, and-false}
-use Rattle.defs.specs.Outcome.{Outcome, answerTwo}
+use Rattle.defs.specs.Outcome.{answerTwo}
 use Rattle.defs.specs.Replay.{replayOutcome}
-use Rattle.verify.specs.Gave.{Gave, gave, replay-same}
+use Rattle.verify.specs.Gave.{gave, replay-same}
 use Rattle.verify.specs.Verified.{unless, readAgain}
 use Rattle.verify.specs.declared.verdict.Stage.{Stage}
 use Rattle.verify.specs.declared.verdict.Verdict.{Verdict}
@@ -30,19 +30,19 @@ module _ (stage : Stage) (w b steps built kids work entries children entries′ 
   unfolding gave
   is = sym (ap gave answered)
 
-  pub read-refused : n ≢ 0 → Refused stage n ≡ readAgain stage w b steps built kids work entries children
+  pub read-refused : (v : Verdict) → v ≡ Refused stage n → n ≢ 0 → v ≡ readAgain stage w b steps built kids work entries children
   unfolding readAgain unless
-  read-refused bad = rw (is, eqb-no n 0 bad)
+  read-refused v e bad = e ∙ rw (is, eqb-no n 0 bad)
 
   module _ (fine : n ≡ 0) where
-    pub entries-differ : same (take first entries′) built ≡ false → Differ stage ≡ readAgain stage w b steps built kids work entries children
+    pub entries-differ : (v : Verdict) → v ≡ Differ stage → same (take first entries′) built ≡ false → v ≡ readAgain stage w b steps built kids work entries children
     unfolding readAgain unless
-    entries-differ e = rw (is, fine, e)
+    entries-differ v e other = e ∙ rw (is, fine, other)
 
-    pub children-differ : same (take second children′) kids ≡ false → Differ stage ≡ readAgain stage w b steps built kids work entries children
+    pub children-differ : (v : Verdict) → v ≡ Differ stage → same (take second children′) kids ≡ false → v ≡ readAgain stage w b steps built kids work entries children
     unfolding readAgain unless
-    children-differ c = rw (is, fine, c, and-false (same (take first entries′) built))
+    children-differ v e other = e ∙ rw (is, fine, other, and-false (same (take first entries′) built))
 
-    pub read-agrees : same (take first entries′) built ≡ true → same (take second children′) kids ≡ true → Agree ≡ readAgain stage w b steps built kids work entries children
+    pub read-agrees : (v : Verdict) → v ≡ Agree → same (take first entries′) built ≡ true → same (take second children′) kids ≡ true → v ≡ readAgain stage w b steps built kids work entries children
     unfolding readAgain unless
-    read-agrees e c = rw (is, fine, e, c)
+    read-agrees v e equal₁ equal₂ = e ∙ rw (is, fine, equal₁, equal₂)

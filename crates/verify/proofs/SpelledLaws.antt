@@ -11,10 +11,9 @@ use Rattle.defs.specs.Outcome.{answerOne, answerTwo, lettersOutcome}
 use Rattle.defs.specs.Decode.{decodeOutcome}
 use Rattle.verify.specs.Gave.{Gave, gave}
 use Rattle.verify.specs.Verified.{unless, lettersGave, decodedGave, spelledWay}
-use Rattle.verify.specs.Spelled.{Spelt, Decoding}
+use Rattle.verify.specs.Spelled.{Decoding}
 use Rattle.verify.proofs.Fits.{decode-fits}
 use Rattle.verify.specs.declared.verdict.Stage.the-variants.{Letters, Decoded}
-use Rattle.verify.specs.declared.verdict.Verdict.{Verdict}
 use Rattle.verify.specs.declared.spelled.Spelled.the-variants.{Refused, Steps}
 
 module _ (w b : List ℕ) (l : Layout) (work sums list letters steps list′ letters′ : List ℕ) (n first second : ℕ) (works : List (List ℕ))

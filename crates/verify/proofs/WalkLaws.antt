@@ -11,10 +11,9 @@ use Rattle.defs.specs.Outcome.{answerOne, answerTwo, stepListOutcome}
 use Rattle.defs.specs.Replay.{replayOutcome}
 use Rattle.verify.specs.Gave.{Gave, gave, list-same, replay-same}
 use Rattle.verify.specs.Verified.{unless, agreeing, readAgain, packedGave, builtGave, packedWay, normalWay, listsWay}
-use Rattle.verify.specs.Came.{Front, Held, Came}
+use Rattle.verify.specs.Came.{Held, Came}
 use Rattle.verify.proofs.AgainLaws.{again-same}
 use Rattle.verify.proofs.Fits.{list-fits, replay-fits}
-use Rattle.verify.specs.declared.verdict.Stage.{Stage}
 use Rattle.verify.specs.declared.verdict.Stage.the-variants.{PackedList, PackedRead, NormalList, NormalRead}
 use Rattle.verify.specs.declared.verdict.Verdict.{Verdict}
 use Rattle.verify.specs.declared.verdict.Verdict.the-variants.{Agree, Refused, Differ}
@@ -32,9 +31,9 @@ list-gave w b packed work out out′ n len works answered = sym (ap gave answere
 
 module _ (w b built kids work steps entries children steps′ : List ℕ) (n len : ℕ) (works : List (List ℕ))
     (answered : answerOne n len works steps′ ≡ stepListOutcome w b false false work steps) where
-  pub normal-refused : n ≢ 0 → Refused NormalList n ≡ normalWay w b built kids work steps entries children
+  pub normal-refused : (v : Verdict) → v ≡ Refused NormalList n → n ≢ 0 → v ≡ normalWay w b built kids work steps entries children
   unfolding normalWay unless
-  normal-refused bad = rw (list-gave w b false work steps steps′ n len works answered, eqb-no n 0 bad)
+  normal-refused v e bad = e ∙ rw (list-gave w b false work steps steps′ n len works answered, eqb-no n 0 bad)
 
   pub normal-read : n ≡ 0 → (work′ : List ℕ) → length work′ ≡ length work → (v : Verdict)
       → v ≡ readAgain NormalRead w b (take len steps′) built kids work′ entries children → v ≡ normalWay w b built kids work steps entries children

@@ -7,19 +7,18 @@ use Prim.Native.Nat.{ℕ}
 use lib.ListN.{length, take}
 use Rattle.laws.specs.Tools.{same}
 use Rattle.defs.specs.Layout.{Layout}
-use Rattle.defs.specs.Outcome.{lettersOutcome}
 use Rattle.defs.specs.Decode.{decodeOutcome}
 use Rattle.verify.specs.Gave.{Gave, gave, letters-same, decode-same}
-use Rattle.verify.specs.Verified.{unless, readAgain, packedGave, builtGave, lettersGave, decodedGave, listsWay, spelledWay, decodedWay, lettersWay, Lent, verified}
+use Rattle.verify.specs.Verified.{readAgain, packedGave, builtGave, lettersGave, decodedGave, listsWay, spelledWay, decodedWay, lettersWay, Lent, verified}
 use Rattle.verify.specs.Came.{Held, Came}
 use Rattle.verify.specs.Spelled.{Spelt, Decoding}
 use Rattle.verify.proofs.AgainLaws.{again-same}
 use Rattle.verify.specs.declared.verdict.Stage.{Stage}
-use Rattle.verify.specs.declared.verdict.Stage.the-variants.{Letters, Decoded, LettersRead}
+use Rattle.verify.specs.declared.verdict.Stage.the-variants.{Decoded, LettersRead}
 use Rattle.verify.specs.declared.verdict.Verdict.{Verdict}
 use Rattle.verify.specs.declared.verdict.Verdict.the-variants.{Refused, Differ}
 use Rattle.verify.specs.declared.walks.Lists.{Lists}
-use Rattle.verify.specs.declared.walks.Lists.the-variants.{Ended, Read}
+use Rattle.verify.specs.declared.walks.Lists.the-variants.{Ended}
 use Rattle.verify.specs.declared.walks.Kept.{Kept}
 use Rattle.verify.specs.declared.spelled.Spelled.{Spelled}
 use Rattle.verify.specs.declared.spelled.Spelled.the-variants as spelled
@@ -27,9 +26,9 @@ use Rattle.verify.specs.declared.spelled.Spelled.the-variants as spelled
 -- ---- the decoded steps
 
 module _ (w b steps packed built kids work entries children : List ℕ) where
-  pub decoded-differ : same steps packed ≡ false → Differ Decoded ≡ decodedWay w b steps packed built kids work entries children
+  pub decoded-differ : (v : Verdict) → v ≡ Differ Decoded → same steps packed ≡ false → v ≡ decodedWay w b steps packed built kids work entries children
   unfolding decodedWay
-  decoded-differ e = rw e
+  decoded-differ v e other = e ∙ rw other
 
   pub decoded-same : same steps packed ≡ true → (v : Verdict) → v ≡ readAgain LettersRead w b steps built kids work entries children
       → v ≡ decodedWay w b steps packed built kids work entries children
@@ -52,11 +51,11 @@ spelt w b l work sums list letters steps steps′ r n came e = rw e at came
 
 module _ (w b : List ℕ) (l : Layout) (packed built kids work sums steps list letters entries children : List ℕ) where
   pub letters-ended : (steps′ : List ℕ) (r : Spelled) (stage : Stage) (number : ℕ) → Decoding w b l work sums list letters steps steps′ r → r ≡ spelled.Refused stage number
-      → Refused stage number ≡ lettersWay w b l packed built kids work sums steps list letters entries children
+      → (v : Verdict) → v ≡ Refused stage number → v ≡ lettersWay w b l packed built kids work sums steps list letters entries children
   unfolding Decoding lettersWay
-  letters-ended steps′ r stage number came e =
+  letters-ended steps′ r stage number came e v is =
       let ended : (next : Verdict) → spelledWay w b l work sums list letters steps next ≡ Refused stage number = rw e at came in
-      sym (ended _)
+      is ∙ sym (ended _)
 
   pub letters-read : (steps′ : List ℕ) (n : ℕ) → Spelt w b l work sums list letters steps steps′ n → (work′ : List ℕ) → length work′ ≡ length work → (v : Verdict)
       → v ≡ decodedWay w b (take n steps′) packed built kids work′ entries children → v ≡ lettersWay w b l packed built kids work sums steps list letters entries children

@@ -1,11 +1,9 @@
 -- Ten slices are zero as a whole where each is, and what zero is depends on the length alone.
 -- Assumes nothing.
 use mathlib.Core.Path.{_≡_}
-use mathlib.Core.List.{List}
-use Prim.Native.Nat.{ℕ}
 use lib.ListN.{length}
 use Rattle.laws.specs.Tools.{zeroed}
-use Rattle.verify.specs.Verified.{Lent, lent}
+use Rattle.verify.specs.Verified.{Lent}
 use Rattle.verify.specs.Verification.{wiped}
 
 pub all-wiped : (m m′ : Lent)

@@ -1,14 +1,12 @@
 -- Demand 3 says that the three ways agree: on a covered table, with the room that document 01 asks, the verdict is yes.
-use mathlib.Core.Path.{_≡_, refl, sym, ap, _∙_}
-use mathlib.Core.Bool.{Bool, true, false, not, _&&_}
+use mathlib.Core.Path.{_≡_, ap, _∙_}
+use mathlib.Core.Bool.{true, false}
 use mathlib.Core.List.{List, [], _∷_}
 use Prim.Native.Nat.{ℕ, _-_, _*_, _/_, _≤_}
 use native.Mathlib.Omega.{arith}
-use lib.Dec.{ltb}
-use lib.ListN.{length, take, drop, replicate}
+use lib.ListN.{length, drop, replicate}
 use lib.Seq.{take-append-seam}
 use borrow.Author.Tests.{le-ltb}
-use Rattle.laws.specs.Tools.{same}
 use Rattle.laws.specs.Lists.{same-refl}
 use Rattle.defs.specs.Table.{entrySize, entries, childRefs, qed}
 use Rattle.defs.specs.Check.{firstOf, tableRefusal}
@@ -29,7 +27,6 @@ use Rattle.verify.specs.Gave.{Gave, gave, gave-one, gave-two}
 use Rattle.verify.specs.Verified.{unless, agreeing, readAgain, packedGave, builtGave, packedWay, normalWay, listsWay, lettersGave, decodedGave, spelledWay, decodedWay, lettersWay, Lent, verified}
 use Rattle.verify.specs.declared.verdict.Stage.{Stage}
 use Rattle.verify.specs.declared.verdict.Stage.the-variants.{NormalRead, LettersRead}
-use Rattle.verify.specs.declared.verdict.Verdict.{Verdict}
 use Rattle.verify.specs.declared.verdict.Verdict.the-variants.{Agree}
 
 -- the room that document 01 asks: of the writers and of the replay (twice the steps), and outputs that what is written fits

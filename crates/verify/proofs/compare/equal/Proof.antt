@@ -1,28 +1,23 @@
+-- `verify::equal` meets its contract: lists of other lengths differ, and from place 0 on the whole is compared.
+-- Assumes nothing.
 use Rattle.laws.specs.Tools.{same}
 use Prim.Native.Nat.{ℕ}
 use native.Mathlib.Omega.{arith}
-use mathlib.Core.Bool.{Bool}
 use mathlib.Core.List.{List}
-use mathlib.Core.Path.{_≡_, sym, ap, _∙_}
+use mathlib.Core.Path.{sym, ap, _∙_}
 use lib.ListN.{length}
 use lib.Seq.{take-all}
 use Rattle.store.proofs.LookupLaws.{same-longer}
 use borrow.Author.Needs.{needs}
 use Rattle.verify.proofs.compare.equal.Statement.{statement}
 use Rattle.verify.proofs.compare.equal.Tie as tie
-use Rattle.verify.proofs.compare.equal.Reads as reads
-use Rattle.verify.proofs.compare.equal.Lts as lts
-use Rattle.store.proofs.lookup.equal_from.Reads as equal-from-reads
 
--- src/compare.rt:14:9
 returns : tie.Need-returns
 returns c = sym (same-longer _ _ (c .if1 .taken))
 
--- src/compare.rt:16:5
 equal-from-requires : tie.Need-equal-from-requires
 equal-from-requires c κs = search needs
 
--- src/compare.rt:10:1
 returns-2 : tie.Need-returns-2
 returns-2 c =
     c .equal-from .ensures ∙ ap (λ (xs : List ℕ). same xs (c .before .before .before .before .args .other .now)) (take-all (length (c .before .before .before .before .args .other .now)) (c .before .before .before .before .args .one .now) (omega (arith, c .before .if1 .left)))

@@ -1,107 +1,82 @@
+-- `verify::read_again` meets its contract: each return is one verdict of the definition, from what the replay gave.
+-- What it wrote fits its slices, since they keep their lengths. Assumes nothing.
 use borrow.Author.Tests.{not-true, not-false}
-use mathlib.Core.Path.{_≡_, sym, _∙_}
+use mathlib.Core.Path.{refl, sym, _∙_}
 use lib.Seq.{length-take-le}
 use Rattle.verify.proofs.AgainLaws.{read-refused, entries-differ, children-differ, read-agrees}
 use Rattle.verify.proofs.Fits.{replay-fits}
 use borrow.Author.Needs.{needs}
 use Rattle.verify.proofs.compare.read_again.Statement.{statement}
 use Rattle.verify.proofs.compare.read_again.Tie as tie
-use Rattle.verify.proofs.compare.read_again.Reads as reads
-use Rattle.verify.proofs.compare.read_again.Lts as lts
-use Rattle.replay.proofs.replay.Reads as replay-reads
-use Rattle.verify.proofs.compare.equal.Reads as equal-reads
 
--- src/compare.rt:34:9
 replay-requires : tie.Need-replay-requires
 replay-requires c κs = search needs
 
--- src/compare.rt:36:9
 same-length : tie.Need-same-length
 same-length c = search needs
 
--- src/compare.rt:36:9
 same-length-2 : tie.Need-same-length-2
 same-length-2 c = search needs
 
--- src/compare.rt:36:9
 same-length-3 : tie.Need-same-length-3
 same-length-3 c = search needs
 
--- src/compare.rt:36:9
 returns : tie.Need-returns
-returns c = read-refused _ _ _ _ _ _ _ _ _ _ _ _ _ _ _ (c .before .before .before .before .before .before .before .before .replay .ensures) (c .if1 .taken)
+returns c = read-refused _ _ _ _ _ _ _ _ _ _ _ _ _ _ _ (c .before .before .before .before .before .before .before .before .replay .ensures) _ refl (c .if1 .taken)
 
--- src/compare.rt:38:15
 slice-reshare-prefix-equal : tie.Need-slice-reshare-prefix-equal
 slice-reshare-prefix-equal c = replay-fits _ _ _ _ _ _ _ _ _ _ _ _ (c .before .before .before .before .before .before .before .before .replay .ensures) (c .before .before .before .before .before .before .before .before .replay .kept .1 .1 .1 .1 .0) (c .before .before .before .before .before .before .before .before .replay .kept .1 .1 .1 .1 .1 .0) .0
 
--- src/compare.rt:38:15
 slice-aggregate-equal : tie.Need-slice-aggregate-equal
 slice-aggregate-equal c = sym (length-take-le _ _ (replay-fits _ _ _ _ _ _ _ _ _ _ _ _ (c .before .before .before .before .before .before .before .before .before .replay .ensures) (c .before .before .before .before .before .before .before .before .before .replay .kept .1 .1 .1 .1 .0) (c .before .before .before .before .before .before .before .before .before .replay .kept .1 .1 .1 .1 .1 .0) .0))
 
--- src/compare.rt:38:9
 equal-requires : tie.Need-equal-requires
 equal-requires c κs = search needs
 
--- src/compare.rt:39:9
 same-length-4 : tie.Need-same-length-4
 same-length-4 c = search needs
 
--- src/compare.rt:39:9
 same-length-5 : tie.Need-same-length-5
 same-length-5 c = search needs
 
--- src/compare.rt:39:9
 same-length-6 : tie.Need-same-length-6
 same-length-6 c = search needs
 
--- src/compare.rt:39:9
 returns-2 : tie.Need-returns-2
-returns-2 c = entries-differ _ _ _ _ _ _ _ _ _ _ _ _ _ _ _ (c .before .before .before .before .before .before .before .before .before .before .before .replay .ensures) (c .before .before .before .if1 .left) (sym (c .before .equal .ensures) ∙ not-true _ (c .if2 .taken))
+returns-2 c = entries-differ _ _ _ _ _ _ _ _ _ _ _ _ _ _ _ (c .before .before .before .before .before .before .before .before .before .before .before .replay .ensures) (c .before .before .before .if1 .left) _ refl (sym (c .before .equal .ensures) ∙ not-true _ (c .if2 .taken))
 
--- src/compare.rt:41:15
 slice-reshare-prefix-equal-2 : tie.Need-slice-reshare-prefix-equal-2
 slice-reshare-prefix-equal-2 c = replay-fits _ _ _ _ _ _ _ _ _ _ _ _ (c .before .before .before .before .before .before .before .before .before .before .before .replay .ensures) (c .before .before .before .before .before .before .before .before .before .before .before .replay .kept .1 .1 .1 .1 .0) (c .before .before .before .before .before .before .before .before .before .before .before .replay .kept .1 .1 .1 .1 .1 .0) .1
 
--- src/compare.rt:41:15
 slice-aggregate-equal-2 : tie.Need-slice-aggregate-equal-2
 slice-aggregate-equal-2 c = sym (length-take-le _ _ (replay-fits _ _ _ _ _ _ _ _ _ _ _ _ (c .before .before .before .before .before .before .before .before .before .before .before .before .replay .ensures) (c .before .before .before .before .before .before .before .before .before .before .before .before .replay .kept .1 .1 .1 .1 .0) (c .before .before .before .before .before .before .before .before .before .before .before .before .replay .kept .1 .1 .1 .1 .1 .0) .1))
 
--- src/compare.rt:41:9
 equal-requires-2 : tie.Need-equal-requires-2
 equal-requires-2 c κs = search needs
 
--- src/compare.rt:42:9
 same-length-7 : tie.Need-same-length-7
 same-length-7 c = search needs
 
--- src/compare.rt:42:9
 same-length-8 : tie.Need-same-length-8
 same-length-8 c = search needs
 
--- src/compare.rt:42:9
 same-length-9 : tie.Need-same-length-9
 same-length-9 c = search needs
 
--- src/compare.rt:42:9
 returns-3 : tie.Need-returns-3
-returns-3 c = children-differ _ _ _ _ _ _ _ _ _ _ _ _ _ _ _ (c .before .before .before .before .before .before .before .before .before .before .before .before .before .before .replay .ensures) (c .before .before .before .before .before .before .if1 .left) (sym (c .before .equal2 .ensures) ∙ not-true _ (c .if3 .taken))
+returns-3 c = children-differ _ _ _ _ _ _ _ _ _ _ _ _ _ _ _ (c .before .before .before .before .before .before .before .before .before .before .before .before .before .before .replay .ensures) (c .before .before .before .before .before .before .if1 .left) _ refl (sym (c .before .equal2 .ensures) ∙ not-true _ (c .if3 .taken))
 
--- src/compare.rt:20:1
 same-length-10 : tie.Need-same-length-10
 same-length-10 c = search needs
 
--- src/compare.rt:20:1
 same-length-11 : tie.Need-same-length-11
 same-length-11 c = search needs
 
--- src/compare.rt:20:1
 same-length-12 : tie.Need-same-length-12
 same-length-12 c = search needs
 
--- src/compare.rt:20:1
 returns-4 : tie.Need-returns-4
-returns-4 c = read-agrees _ _ _ _ _ _ _ _ _ _ _ _ _ _ _ (c .before .before .before .before .before .before .before .before .before .before .before .before .before .before .replay .ensures) (c .before .before .before .before .before .before .if1 .left) (sym (c .before .before .before .before .equal .ensures) ∙ not-false _ (c .before .before .before .if2 .left)) (sym (c .before .equal2 .ensures) ∙ not-false _ (c .if3 .left))
+returns-4 c = read-agrees _ _ _ _ _ _ _ _ _ _ _ _ _ _ _ (c .before .before .before .before .before .before .before .before .before .before .before .before .before .before .replay .ensures) (c .before .before .before .before .before .before .if1 .left) _ refl (sym (c .before .before .before .before .equal .ensures) ∙ not-false _ (c .before .before .before .if2 .left)) (sym (c .before .equal2 .ensures) ∙ not-false _ (c .if3 .left))
 
 pub read-again-spec : {M : Type 1} → statement M
 read-again-spec =

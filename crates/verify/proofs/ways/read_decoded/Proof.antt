@@ -1,39 +1,30 @@
-use mathlib.Core.Path.{_≡_, sym, _∙_}
+-- `verify::read_decoded` meets its contract: the lists differ, or the verdict of the reading.
+-- Assumes nothing.
+use mathlib.Core.Path.{refl, sym, _∙_}
 use borrow.Author.Tests.{not-true, not-false}
 use Rattle.verify.proofs.WayLaws.{decoded-differ, decoded-same}
 use borrow.Author.Needs.{needs}
 use Rattle.verify.proofs.ways.read_decoded.Statement.{statement}
 use Rattle.verify.proofs.ways.read_decoded.Tie as tie
-use Rattle.verify.proofs.ways.read_decoded.Reads as reads
-use Rattle.verify.proofs.ways.read_decoded.Lts as lts
-use Rattle.verify.proofs.compare.equal.Reads as equal-reads
-use Rattle.verify.proofs.compare.read_again.Reads as read-again-reads
 
--- src/ways.rt:30:9
 equal-requires : tie.Need-equal-requires
 equal-requires c κs = search needs
 
--- src/ways.rt:31:9
 returns : tie.Need-returns
-returns c = decoded-differ _ _ _ _ _ _ _ _ _ (sym (c .before .equal .ensures) ∙ not-true _ (c .if1 .taken))
+returns c = decoded-differ _ _ _ _ _ _ _ _ _ _ refl (sym (c .before .equal .ensures) ∙ not-true _ (c .if1 .taken))
 
--- src/ways.rt:34:5
 read-again-requires : tie.Need-read-again-requires
 read-again-requires c κs = search needs
 
--- src/ways.rt:16:1
 same-length : tie.Need-same-length
 same-length c = search needs
 
--- src/ways.rt:16:1
 same-length-2 : tie.Need-same-length-2
 same-length-2 c = search needs
 
--- src/ways.rt:16:1
 same-length-3 : tie.Need-same-length-3
 same-length-3 c = search needs
 
--- src/ways.rt:16:1
 returns-2 : tie.Need-returns-2
 returns-2 c = decoded-same _ _ _ _ _ _ _ _ _ (sym (c .before .before .before .before .before .before .before .before .before .before .before .equal .ensures) ∙ not-false _ (c .before .before .before .before .before .before .before .before .before .before .if1 .left)) _ (c .before .before .before .before .before .before .read-again .ensures)
 
