@@ -26,9 +26,9 @@ use Rattle.verify.specs.declared.spelled.Spelled.the-variants as spelled
 -- ---- the decoded steps
 
 module _ (w b steps packed built kids work entries children : List ℕ) where
-  pub decoded-differ : (v : Verdict) → v ≡ Differ Decoded → same steps packed ≡ false → v ≡ decodedWay w b steps packed built kids work entries children
+  pub decoded-differ : same steps packed ≡ false → decodedWay w b steps packed built kids work entries children ≡ Differ Decoded
   unfolding decodedWay
-  decoded-differ v e other = e ∙ rw other
+  decoded-differ other = rw other
 
   pub decoded-same : same steps packed ≡ true → (v : Verdict) → v ≡ readAgain LettersRead w b steps built kids work entries children
       → v ≡ decodedWay w b steps packed built kids work entries children

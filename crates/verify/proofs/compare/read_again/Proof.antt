@@ -1,7 +1,10 @@
 -- `verify::read_again` meets its contract: each return is one verdict of the definition, from what the replay gave.
 -- What it wrote fits its slices, since they keep their lengths. Assumes nothing.
+use lib.ListN.{take}
+use Rattle.laws.specs.Tools.{same}
+use mathlib.Core.Bool.{true, false}
+use mathlib.Core.Path.{_≡_, refl, sym, _∙_}
 use borrow.Author.Tests.{not-true, not-false}
-use mathlib.Core.Path.{refl, sym, _∙_}
 use lib.Seq.{length-take-le}
 use Rattle.verify.proofs.AgainLaws.{read-refused, entries-differ, children-differ, read-agrees}
 use Rattle.verify.proofs.Fits.{replay-fits}
@@ -64,7 +67,9 @@ same-length-9 : tie.Need-same-length-9
 same-length-9 c = search needs
 
 returns-3 : tie.Need-returns-3
-returns-3 c = children-differ _ _ _ _ _ _ _ _ _ _ _ _ _ _ _ (c .before .before .before .before .before .before .before .before .before .before .before .before .before .before .replay .ensures) (c .before .before .before .before .before .before .if1 .left) _ refl (sym (c .before .equal2 .ensures) ∙ not-true _ (c .if3 .taken))
+returns-3 c =
+    let other : same (take (c .before .before .before .before .before .before .before .before .before .before .before .before .before .before .replay .result .second) (c .before .before .before .before .before .before .before .before .before .before .before .before .before .before .replay .last .1 .1 .1 .1 .1 .0)) (c .before .before .before .before .before .before .before .before .before .before .before .before .before .before .before .before .before .before .before .before .before .before .before .before .before .before .args .kids .now) ≡ false = sym (c .before .equal2 .ensures) ∙ not-true _ (c .if3 .taken) in
+    children-differ _ _ _ _ _ _ _ _ _ _ _ _ _ _ _ (c .before .before .before .before .before .before .before .before .before .before .before .before .before .before .replay .ensures) (c .before .before .before .before .before .before .if1 .left) _ refl other
 
 same-length-10 : tie.Need-same-length-10
 same-length-10 c = search needs
@@ -76,7 +81,9 @@ same-length-12 : tie.Need-same-length-12
 same-length-12 c = search needs
 
 returns-4 : tie.Need-returns-4
-returns-4 c = read-agrees _ _ _ _ _ _ _ _ _ _ _ _ _ _ _ (c .before .before .before .before .before .before .before .before .before .before .before .before .before .before .replay .ensures) (c .before .before .before .before .before .before .if1 .left) _ refl (sym (c .before .before .before .before .equal .ensures) ∙ not-false _ (c .before .before .before .if2 .left)) (sym (c .before .equal2 .ensures) ∙ not-false _ (c .if3 .left))
+returns-4 c =
+    let equal : same (take (c .before .before .before .before .before .before .before .before .before .before .before .before .before .before .replay .result .second) (c .before .before .before .before .before .before .before .before .before .before .before .before .before .before .replay .last .1 .1 .1 .1 .1 .0)) (c .before .before .before .before .before .before .before .before .before .before .before .before .before .before .before .before .before .before .before .before .before .before .before .before .before .before .args .kids .now) ≡ true = sym (c .before .equal2 .ensures) ∙ not-false _ (c .if3 .left) in
+    read-agrees _ _ _ _ _ _ _ _ _ _ _ _ _ _ _ (c .before .before .before .before .before .before .before .before .before .before .before .before .before .before .replay .ensures) (c .before .before .before .before .before .before .if1 .left) _ refl (sym (c .before .before .before .before .equal .ensures) ∙ not-false _ (c .before .before .before .if2 .left)) equal
 
 pub read-again-spec : {M : Type 1} → statement M
 read-again-spec =

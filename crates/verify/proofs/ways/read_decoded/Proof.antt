@@ -1,6 +1,8 @@
 -- `verify::read_decoded` meets its contract: the lists differ, or the verdict of the reading.
 -- Assumes nothing.
-use mathlib.Core.Path.{refl, sym, _∙_}
+use Rattle.laws.specs.Tools.{same}
+use mathlib.Core.Bool.{true, false}
+use mathlib.Core.Path.{_≡_, sym, _∙_}
 use borrow.Author.Tests.{not-true, not-false}
 use Rattle.verify.proofs.WayLaws.{decoded-differ, decoded-same}
 use borrow.Author.Needs.{needs}
@@ -11,7 +13,10 @@ equal-requires : tie.Need-equal-requires
 equal-requires c κs = search needs
 
 returns : tie.Need-returns
-returns c = decoded-differ _ _ _ _ _ _ _ _ _ _ refl (sym (c .before .equal .ensures) ∙ not-true _ (c .if1 .taken))
+returns c =
+    let a = c .before .before .before .before .before .before .before .before .before .before .before .args in
+    let other : same (a .steps .now) (a .packed .now) ≡ false = sym (c .before .equal .ensures) ∙ not-true _ (c .if1 .taken) in
+    rw (decoded-differ (a .words .now) (a .labels .now) (a .steps .now) (a .packed .now) (a .built .now) (a .kids .now) (a .work .now) (a .entries .now) (a .children .now) other)
 
 read-again-requires : tie.Need-read-again-requires
 read-again-requires c κs = search needs
@@ -26,7 +31,10 @@ same-length-3 : tie.Need-same-length-3
 same-length-3 c = search needs
 
 returns-2 : tie.Need-returns-2
-returns-2 c = decoded-same _ _ _ _ _ _ _ _ _ (sym (c .before .before .before .before .before .before .before .before .before .before .before .equal .ensures) ∙ not-false _ (c .before .before .before .before .before .before .before .before .before .before .if1 .left)) _ (c .before .before .before .before .before .before .read-again .ensures)
+returns-2 c =
+    let a = c .before .before .before .before .before .before .before .before .before .before .before .before .before .before .before .before .before .before .before .before .before .args in
+    let equal : same (a .steps .now) (a .packed .now) ≡ true = sym (c .before .before .before .before .before .before .before .before .before .before .before .equal .ensures) ∙ not-false _ (c .before .before .before .before .before .before .before .before .before .before .if1 .left) in
+    decoded-same _ _ _ _ _ _ _ _ _ equal _ (c .before .before .before .before .before .before .read-again .ensures)
 
 pub read-decoded-spec : {M : Type 1} → statement M
 read-decoded-spec =
