@@ -6,7 +6,7 @@ use order::label_letters;
 ghost use Rattle.layout.specs.Layouts.{layoutOf};
 ghost use Rattle.verify.specs.Spelled.{Decoding};
 
-// How many words the decoded steps fill.
+// A stage that refused, with its number, or how many words the decoded steps fill.
 pub enum Spelled {
     Refused(Stage, u32),
     Steps(usize),

@@ -9,13 +9,14 @@ ghost use mathlib.Core.Path.{_≡_};
 ghost use Rattle.verify.specs.Verified.{packedWay, normalWay, listsWay, packedGave, builtGave};
 ghost use Rattle.verify.specs.Came.{Came};
 
-// How many words of its slices the packed list filled, how many its entries, how many their children.
+// How many words the packed list filled, how many the entries that it was read as, how many their children.
 pub struct Kept {
     pub packed: usize,
     pub built: usize,
     pub kids: usize,
 }
 
+// A verdict already, or what there is to compare with.
 pub enum Lists {
     Ended(Verdict),
     Read(Kept),
