@@ -1,2 +1,2 @@
-mod LookupLaws
+pub mod LookupLaws
 mod PlaceLaws

@@ -44,7 +44,7 @@ module _ (list : List ℕ) (start : ℕ) (wanted : List ℕ) where
     pub same-not : ¬ (getD list (start + i) 0 ≡ getD wanted i 0) → sameFrom list start wanted i ≡ false
     same-not e = same-here ∙ rw (eqb-no (getD list (start + i) 0) (getD wanted i 0) e)
 
-same-longer : (xs ys : List ℕ) → ¬ (length xs ≡ length ys) → same xs ys ≡ false
+pub same-longer : (xs ys : List ℕ) → ¬ (length xs ≡ length ys) → same xs ys ≡ false
 same-longer xs ys h = boole (same xs ys) (λ t. absurd (h (ap length (same-is xs ys (T-of t))))) (λ f. f)
 
 -- ---- one entry

@@ -16,7 +16,7 @@ ghost use Rattle.table.specs.Records.{EntryIn};
 ghost use Rattle.store.specs.Store.{holding, BuiltOk, isEntry};
 
 // What stands in a list from start on is the list wanted.
-fn equal_from(list: &[u32], start: usize, wanted: &[u32]) -> bool
+pub fn equal_from(list: &[u32], start: usize, wanted: &[u32]) -> bool
     requires { ⌜ start + length (now wanted) ≤ length (now list) ⌝ }
     ensures { λ r. ⌜ r ≡ same (part start (length (now (wanted .entry))) (now (list .entry))) (now (wanted .entry)) ⌝ }
 {

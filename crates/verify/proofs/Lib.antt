@@ -1,0 +1,6 @@
+mod Fits
+mod AgainLaws
+mod WalkLaws
+mod SpelledLaws
+mod WayLaws
+mod WipeLaws
