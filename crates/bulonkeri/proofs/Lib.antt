@@ -1,0 +1,4 @@
+mod Fits
+mod Lists
+mod Renewed
+mod Texts

@@ -1,0 +1,23 @@
+-- `encoded` meets its contract: 1,024 words have 4,096 bytes.
+-- The length of the bytes of words is a law.
+use mathlib.Core.Path.{_≡_, refl, sym, ap, _∙_}
+use Prim.Native.Nat.{ℕ, _+_, _-_, _*_, _≤_, _<_}
+use native.Mathlib.Omega.{arith}
+use lib.ListN.{length, getD, take, drop}
+use Rattle.table_file.specs.Words.{file-length}
+use Rattle.bulonkeri.proofs.Fits.{counts}
+use borrow.Author.Needs.{needs}
+use Rattle.bulonkeri.proofs.writing.encoded.Statement.{statement}
+use Rattle.bulonkeri.proofs.writing.encoded.Tie as tie
+use Rattle.bulonkeri.proofs.writing.encoded.Reads as reads
+use Rattle.bulonkeri.proofs.writing.encoded.Lts as lts
+use Rattle.table_file.proofs.encode.Reads as encode-reads
+
+encode-requires : tie.Need-encode-requires
+encode-requires c κs = search needs
+
+returns : tie.Need-returns
+returns c = counts _ _ (omega (arith, c .encode .ensures .ends, c .encode .ensures .kept, file-length (c .before .before .before .args .words .now) (length (c .before .before .before .args .words .now))))
+
+pub encoded-spec : {M : Type 1} → statement M
+encoded-spec = tie.close (tie.spec encode-requires returns)
