@@ -1,3 +1,4 @@
+mod Arrays
 mod Fits
 mod Lists
 mod Renewed

@@ -1,10 +1,10 @@
 // Which command is asked for. Where it is none, or its arguments are wrong, one line says so and nothing is done.
-use crate::errors::arguments_error;
 use crate::letters;
+use crate::lines::line_named;
 use crate::list;
 use crate::list::ListKind;
+use crate::usage::arguments_error;
 use crate::usage::usage;
-use check::same;
 use layout::Layout;
 
 pub enum Command {
@@ -21,40 +21,31 @@ pub enum Asked {
     Nothing,
 }
 
-// A command that takes so many arguments: the program's name and its own are counted too.
-fn with_arguments(count: usize, command: Command, form: &[u8]) -> Asked {
+// Wrong arguments of the command with this number.
+pub fn wrong(number: usize) -> Asked {
+    arguments_error(number);
+    Asked::Nothing
+}
+
+// A command that takes so many arguments; the program's name and the command's are counted too.
+fn with_arguments(count: usize, command: Command, number: usize) -> Asked {
     if os::arg_count() != count {
-        arguments_error(form);
-        return Asked::Nothing;
+        return wrong(number);
     }
     Asked::For(command)
 }
 
-fn named(name: &[u8]) -> Asked {
-    if same(name, b"check") {
-        return with_arguments(3, Command::Check, b"check FILE");
+fn command_named(name: &[u8]) -> Asked {
+    let number = line_named(b"check\nparents\ndistances\nlist\nletters\nclean\n", name);
+    match number {
+        0 => with_arguments(3, Command::Check, number),
+        1 => with_arguments(3, Command::Parents, number),
+        2 => with_arguments(3, Command::Distances, number),
+        3 => list::read_command(number),
+        4 => letters::read_command(number),
+        5 => with_arguments(4, Command::Clean, number),
+        _ => wrong(number),
     }
-    if same(name, b"parents") {
-        return with_arguments(3, Command::Parents, b"parents FILE");
-    }
-    if same(name, b"distances") {
-        return with_arguments(3, Command::Distances, b"distances FILE");
-    }
-    if same(name, b"list") {
-        return list::read_command();
-    }
-    if same(name, b"letters") {
-        return letters::read_command();
-    }
-    if same(name, b"clean") {
-        return with_arguments(4, Command::Clean, b"clean FILE NEWFILE");
-    }
-    no_command();
-    Asked::Nothing
-}
-
-fn no_command() {
-    arguments_error(b"a command: check, parents, distances, list, letters or clean");
 }
 
 pub fn read_command() -> Asked {
@@ -65,8 +56,7 @@ pub fn read_command() -> Asked {
     let mut name = [0u8; 16];
     let length = os::arg(1, &mut name);
     if os::errno() != 0 {
-        no_command();
-        return Asked::Nothing;
+        return wrong(6);
     }
-    named(&name[..length])
+    command_named(&name[..length])
 }

@@ -1,12 +1,6 @@
-// Lines that say why nothing was answered: the arguments, a file, or the program's memory.
+// Lines that say why nothing was answered: a file, or the program's memory.
 use crate::numbers::print_number;
 use crate::printing::print;
-
-pub fn arguments_error(expected: &[u8]) {
-    print(b"error: expected ");
-    print(expected);
-    print(b"\n");
-}
 
 // The reasons that a user meets in words; any other in the words of the system, on standard error.
 fn print_reason(error: i32, path: &[u8]) {

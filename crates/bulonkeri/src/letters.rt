@@ -1,8 +1,7 @@
 // The command letters: the label list, and the letters of the packed list.
 use crate::asked::Asked;
 use crate::asked::Command;
-use crate::errors::arguments_error;
-use crate::errors::too_large;
+use crate::asked::wrong;
 use crate::layouts::LayoutAsked;
 use crate::layouts::layout_arguments;
 use crate::limits::LETTER_BYTES;
@@ -22,21 +21,17 @@ ghost use lib.ListN.{take};
 ghost use Rattle.io.specs.Counts.{Counts};
 ghost use Rattle.bulonkeri.specs.Listed.{LabelIn, Listed};
 
-fn wrong() -> Asked {
-    arguments_error(b"letters FILE [WIDTH INDENT FIRST], numbers up to 100000");
-    Asked::Nothing
-}
-
-pub fn read_command() -> Asked {
+// The layout, if any, is the arguments from the third on; `number` is the command's.
+pub fn read_command(number: usize) -> Asked {
     let count = os::arg_count();
     if count == 3 {
         return Asked::For(Command::Letters(Layout::standard()));
     }
     if count != 6 {
-        return wrong();
+        return wrong(number);
     }
     let LayoutAsked::Is(layout) = layout_arguments(3) else {
-        return wrong();
+        return wrong(number);
     };
     Asked::For(Command::Letters(layout))
 }
@@ -98,10 +93,6 @@ fn show(
     let number = answer.number;
     let listed = answer.first;
     let length = answer.second;
-    if number == 14 {
-        too_large(b"statements times line room over", WORK_SUMS as u32);
-        return;
-    }
     if number != 0 {
         refused(number);
         return;

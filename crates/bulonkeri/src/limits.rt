@@ -1,5 +1,5 @@
 // The sizes of the program's arrays. A program has no heap, and 8 MiB of stack in all, so it has limits of its own
-// (docs/DECISIONS.md): all counts of document 01, but not all label bytes, wide layouts and long normal lists.
+// (docs/DECISIONS.md): all counts and layouts of document 01, but not all label bytes and not all normal lists.
 
 // The words of the largest table of document 01: 10 + 5 × 4,096 + 65,535 + 3 × 8,192 + 65,535.
 pub const TABLE_WORDS: usize = 176136;
@@ -10,8 +10,8 @@ pub const LABEL_BYTES: usize = 262144;
 // 8 × (n + c + s + 1) of the largest table.
 pub const WORK_WORDS: usize = 622592;
 
-// (s + 1) × (W + 1) of 4,096 statements at W = 126, or of 2,047 at any layout.
-pub const WORK_SUMS: usize = 524288;
+// (s + 1) × (W + 1) of 4,096 statements at the widest layout, W = 255.
+pub const WORK_SUMS: usize = 1048832;
 
 // Packed lists have at most c + 1 steps, of five words each.
 pub const MOST_STEPS: u32 = 65536;

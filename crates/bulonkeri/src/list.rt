@@ -1,15 +1,15 @@
 // The command list: a step list, a line for each step.
 use crate::asked::Asked;
 use crate::asked::Command;
-use crate::errors::arguments_error;
+use crate::asked::wrong;
 use crate::errors::too_large;
 use crate::limits::LIST_WORDS;
 use crate::limits::MOST_STEPS;
 use crate::limits::WORK_WORDS;
+use crate::lines::line_named;
 use crate::printing::print;
 use crate::refusals::refused;
 use crate::rows::print_rows;
-use check::same;
 use table::Written;
 use walk::steps::STEP_WORDS;
 ghost use Rattle.io.specs.Counts.{Counts};
@@ -23,37 +23,27 @@ fn asked_for(packed: bool, explicit: bool) -> Asked {
     Asked::For(Command::List(ListKind { packed, explicit }))
 }
 
-fn wrong() -> Asked {
-    arguments_error(b"list FILE normal|packed|explicit|packed-explicit");
-    Asked::Nothing
+fn kind_named(name: &[u8], number: usize) -> Asked {
+    match line_named(b"normal\npacked\nexplicit\npacked-explicit\n", name) {
+        0 => asked_for(false, false),
+        1 => asked_for(true, false),
+        2 => asked_for(false, true),
+        3 => asked_for(true, true),
+        _ => wrong(number),
+    }
 }
 
-fn kind_named(name: &[u8]) -> Asked {
-    if same(name, b"normal") {
-        return asked_for(false, false);
-    }
-    if same(name, b"packed") {
-        return asked_for(true, false);
-    }
-    if same(name, b"explicit") {
-        return asked_for(false, true);
-    }
-    if same(name, b"packed-explicit") {
-        return asked_for(true, true);
-    }
-    wrong()
-}
-
-pub fn read_command() -> Asked {
+// The kind is the third argument; `number` is the command's.
+pub fn read_command(number: usize) -> Asked {
     if os::arg_count() != 4 {
-        return wrong();
+        return wrong(number);
     }
     let mut name = [0u8; 16];
     let length = os::arg(3, &mut name);
     if os::errno() != 0 {
-        return wrong();
+        return wrong(number);
     }
-    kind_named(&name[..length])
+    kind_named(&name[..length], number)
 }
 
 // The library's operations; what they wrote stands at the front of the output.

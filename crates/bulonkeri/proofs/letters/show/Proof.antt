@@ -9,7 +9,6 @@ use Rattle.bulonkeri.proofs.letters.show.Statement.{statement}
 use Rattle.bulonkeri.proofs.letters.show.Tie as tie
 use Rattle.bulonkeri.proofs.letters.show.Reads as reads
 use Rattle.bulonkeri.proofs.letters.show.Lts as lts
-use Rattle.bulonkeri.proofs.errors.too_large.Reads as too-large-reads
 use Rattle.bulonkeri.proofs.letters.label_letters.Reads as label-letters-reads
 use Rattle.bulonkeri.proofs.letters.print_labels.Reads as print-labels-reads
 use Rattle.bulonkeri.proofs.printing.print.Reads as print-reads
@@ -18,14 +17,8 @@ use Rattle.bulonkeri.proofs.refusals.refused.Reads as refused-reads
 label-letters-requires : tie.Need-label-letters-requires
 label-letters-requires c κs = search needs
 
-slice-aggregate-too-large : tie.Need-slice-aggregate-too-large
-slice-aggregate-too-large c = search needs
-
-cast-too-large : tie.Need-cast-too-large
-cast-too-large c = search needs
-
-too-large-requires : tie.Need-too-large-requires
-too-large-requires c κs = search needs
+refused-requires : tie.Need-refused-requires
+refused-requires c κs = search needs
 
 same-length : tie.Need-same-length
 same-length c = search needs
@@ -42,24 +35,6 @@ same-length-4 c = search needs
 returns : tie.Need-returns
 returns c = search needs
 
-refused-requires : tie.Need-refused-requires
-refused-requires c κs = search needs
-
-same-length-5 : tie.Need-same-length-5
-same-length-5 c = search needs
-
-same-length-6 : tie.Need-same-length-6
-same-length-6 c = search needs
-
-same-length-7 : tie.Need-same-length-7
-same-length-7 c = search needs
-
-same-length-8 : tie.Need-same-length-8
-same-length-8 c = search needs
-
-returns-2 : tie.Need-returns-2
-returns-2 c = search needs
-
 slice-aggregate-print : tie.Need-slice-aggregate-print
 slice-aggregate-print c = search needs
 
@@ -73,7 +48,7 @@ slice-aggregate-print-labels : tie.Need-slice-aggregate-print-labels
 slice-aggregate-print-labels c = search needs
 
 print-labels-requires : tie.Need-print-labels-requires
-print-labels-requires c κs = c .before .before .before .before .before .before .before .before .before .before .before .before .before .label-letters .ensures .1 .1 (omega arith)
+print-labels-requires c κs = c .before .before .before .before .before .before .before .before .before .before .before .before .label-letters .ensures .1 .1 (omega arith)
 
 slice-reshare-prefix-print : tie.Need-slice-reshare-prefix-print
 slice-reshare-prefix-print c = search needs
@@ -90,40 +65,32 @@ slice-aggregate-print-3 c = search needs
 print-requires-3 : tie.Need-print-requires-3
 print-requires-3 c κs = search needs
 
-same-length-9 : tie.Need-same-length-9
-same-length-9 c = search needs
+same-length-5 : tie.Need-same-length-5
+same-length-5 c = search needs
 
-same-length-10 : tie.Need-same-length-10
-same-length-10 c = search needs
+same-length-6 : tie.Need-same-length-6
+same-length-6 c = search needs
 
-same-length-11 : tie.Need-same-length-11
-same-length-11 c = search needs
+same-length-7 : tie.Need-same-length-7
+same-length-7 c = search needs
 
-same-length-12 : tie.Need-same-length-12
-same-length-12 c = search needs
+same-length-8 : tie.Need-same-length-8
+same-length-8 c = search needs
 
-returns-3 : tie.Need-returns-3
-returns-3 c = search needs
+returns-2 : tie.Need-returns-2
+returns-2 c = search needs
 
 pub show-spec : {M : Type 1} → statement M
 show-spec =
     tie.close
     (tie.spec
     label-letters-requires
-    slice-aggregate-too-large
-    cast-too-large
-    too-large-requires
+    refused-requires
     same-length
     same-length-2
     same-length-3
     same-length-4
     returns
-    refused-requires
-    same-length-5
-    same-length-6
-    same-length-7
-    same-length-8
-    returns-2
     slice-aggregate-print
     print-requires
     slice-reshare-prefix-print-labels
@@ -134,8 +101,8 @@ show-spec =
     print-requires-2
     slice-aggregate-print-3
     print-requires-3
-    same-length-9
-    same-length-10
-    same-length-11
-    same-length-12
-    returns-3)
+    same-length-5
+    same-length-6
+    same-length-7
+    same-length-8
+    returns-2)
