@@ -1,15 +1,15 @@
 -- What an operation wrote stands inside its output: a refusal's length is 0, and a result that was written over the front is no
 -- longer than what it was written over.
-use mathlib.Core.Path.{_≡_, refl, sym, ap, _∙_}
-use mathlib.Core.Bool.{Bool, true, false}
-use mathlib.Core.List.{List, [], _∷_, _++_}
-use Prim.Native.Nat.{ℕ, _+_, _-_, _*_, _≤_}
+use mathlib.Core.Path.{_≡_, sym, ap}
+use mathlib.Core.Bool.{Bool}
+use mathlib.Core.List.{List, [], _∷_}
+use Prim.Native.Nat.{ℕ, _-_, _≤_}
 use native.Mathlib.Omega.{arith}
-use lib.ListN.{length, getD, take, drop, replicate, length-append, length-drop, length-replicate}
+use lib.ListN.{length, getD, drop, replicate, length-append}
 use lib.Seq.{length-take-le}
 use lib.Dec.{eqb}
 use Rattle.io.specs.Counts.{Counts}
-use Rattle.laws.specs.Tools.{pick, over, overZero, zeroed}
+use Rattle.laws.specs.Tools.{overZero}
 use Rattle.laws.specs.Lists.{boole}
 use Rattle.defs.specs.Layout.{Layout}
 use Rattle.defs.specs.Outcome.{Outcome, answerOne, answerTwo, lengthAfter, outAfter, oneOutput, twoOutputs, parentsOutcome, distancesOutcome, stepListOutcome, lettersOutcome}

@@ -1,16 +1,16 @@
 -- The label list of a table that is not refused has statements of the table: so labels can be printed.
 use mathlib.Core.Path.{_≡_, refl, sym, ap, _∙_}
-use mathlib.Core.Bool.{Bool, true, false, _||_}
+use mathlib.Core.Bool.{Bool, false}
 use mathlib.Core.List.{List, [], _∷_, _++_}
-use Prim.Native.Nat.{ℕ, zero, suc, _+_, _-_, _*_, _<_, _≤_}
+use Prim.Native.Nat.{ℕ, zero, suc, _-_, _<_, _≤_}
 use native.Mathlib.Omega.{arith}
 use lib.ListN.{length, getD, take, drop}
 use lib.Seq.{take-at}
 use Rattle.laws.specs.Lists.{boole, all-at}
 use Rattle.defs.specs.Table.{statements, statementWords, labelLength}
 use Rattle.defs.specs.Check.{Test, _when_, firstOf, orElse, tableRefusal}
-use Rattle.defs.specs.Layout.{Layout, bad8}
-use Rattle.defs.specs.Refusals.{bad10, bad11, bad12, bad14, bad15, need32, need16}
+use Rattle.defs.specs.Layout.{Layout}
+use Rattle.defs.specs.Refusals.{bad12}
 use Rattle.defs.specs.Text.{labelsOf, lettersFor}
 use Rattle.defs.specs.Ranges.{labels-listed}
 use Rattle.defs.specs.Sections.{statements-ok}

@@ -1,9 +1,9 @@
 -- Numbers as decimals: the digits and the byte after them stand at the front of the text, and an argument that is the decimal of a
 -- number up to 100,000 is found to be one.
-use mathlib.Core.Path.{_≡_, refl, sym, ap, _∙_}
+use mathlib.Core.Path.{_≡_, sym, ap, _∙_}
 use mathlib.Core.Bool.{Bool, true, false}
 use mathlib.Core.List.{List, [], _∷_, _++_}
-use Prim.Native.Nat.{ℕ, _+_, _≤_, _<_, min}
+use Prim.Native.Nat.{ℕ, _+_, _≤_, _<_}
 use native.Mathlib.Omega.{arith}
 use lib.ListN.{length, take, drop, length-append}
 use lib.Seq.{take-at}
@@ -13,7 +13,7 @@ use Rattle.laws.specs.Lists.{T-of, same-is, same-refl, clash}
 use Rattle.laws.specs.Puts.{Put, Grows, grows-one, grows-more}
 use Rattle.defs.specs.Names.{digits}
 use Rattle.defs.specs.NameLaws.{value, value-digits}
-use Rattle.names.specs.Decimals.{mostDigits, capped}
+use Rattle.names.specs.Decimals.{capped}
 use Rattle.names.proofs.Decimals.{digits-most}
 use Rattle.bulonkeri.specs.Numbers.{Says}
 use Rattle.bulonkeri.specs.declared.numbers.Number.the-variants.{Is, None}

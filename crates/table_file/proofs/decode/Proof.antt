@@ -1,16 +1,11 @@
 -- `decode` meets its contract: the first i words are done.
 -- The measure is how many are left.
-use mathlib.Core.Path.{_≡_, refl, sym, ap, _∙_}
-use Prim.Native.Nat.{ℕ, _+_, _-_, _≤_}
+use Prim.Native.Nat.{_-_}
 use native.Mathlib.Omega.{arith}
-use borrow.Author.Needs.{needs}
 use lib.ListN.{length}
-use Rattle.table_file.proofs.WordLaws.{Decoded, decoded-none, decoded-more, Encoded, encoded-none, encoded-more}
+use Rattle.table_file.proofs.WordLaws.{Decoded, decoded-none, decoded-more}
 use Rattle.table_file.proofs.decode.Statement.{statement}
 use Rattle.table_file.proofs.decode.Tie as tie
-use Rattle.table_file.proofs.decode.Reads as reads
-use Rattle.table_file.proofs.decode.Lts as lts
-use Rattle.table_file.proofs.word.Reads as word-reads
 
 abbrev Inv-loop : tie.InvT-loop
 Inv-loop bytes words₀ i₀ at₀ words i at = Decoded bytes words₀ words i at

@@ -1,17 +1,12 @@
 -- `encode` meets its contract: the first i words are done.
 -- The measure is how many are left.
-use mathlib.Core.Path.{_≡_, refl, sym, ap, _∙_}
-use Prim.Native.Nat.{ℕ, _+_, _-_, _≤_}
+use mathlib.Core.Path.{_≡_, sym, ap}
+use Prim.Native.Nat.{_-_}
 use native.Mathlib.Omega.{arith}
-use borrow.Author.Needs.{needs}
 use lib.ListN.{length}
-use Rattle.table_file.proofs.WordLaws.{Decoded, decoded-none, decoded-more, Encoded, encoded-none, encoded-more}
+use Rattle.table_file.proofs.WordLaws.{Encoded, encoded-none, encoded-more}
 use Rattle.table_file.proofs.encode.Statement.{statement}
 use Rattle.table_file.proofs.encode.Tie as tie
-use Rattle.table_file.proofs.encode.Reads as reads
-use Rattle.table_file.proofs.encode.Lts as lts
-use Rattle.layout.proofs.bytes.put_piece.Reads as put-piece-reads
-use Rattle.table_file.proofs.bytes_of.Reads as bytes-of-reads
 
 abbrev Inv-loop : tie.InvT-loop
 Inv-loop words bytes₀ i₀ at₀ bytes i at = Encoded words bytes₀ bytes i at

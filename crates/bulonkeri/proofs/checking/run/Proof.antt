@@ -1,18 +1,11 @@
 -- `run` meets its contract: a table that is not refused has a header.
 -- The rest is found.
-use mathlib.Core.Path.{_≡_, refl, sym, ap, _∙_}
-use Prim.Native.Nat.{ℕ, _+_, _-_, _*_, _≤_, _<_}
+use mathlib.Core.Path.{sym, _∙_}
 use native.Mathlib.Omega.{arith}
-use lib.ListN.{length, getD, take, drop}
 use Rattle.table.specs.Headers.{header-ok}
 use borrow.Author.Needs.{needs}
 use Rattle.bulonkeri.proofs.checking.run.Statement.{statement}
 use Rattle.bulonkeri.proofs.checking.run.Tie as tie
-use Rattle.bulonkeri.proofs.checking.run.Reads as reads
-use Rattle.bulonkeri.proofs.checking.run.Lts as lts
-use Rattle.bulonkeri.proofs.checking.print_counts.Reads as print-counts-reads
-use Rattle.bulonkeri.proofs.refusals.refused.Reads as refused-reads
-use Rattle.table_check.proofs.check.Reads as check-reads
 
 check-requires : tie.Need-check-requires
 check-requires c κs = search needs

@@ -1,16 +1,9 @@
 -- `packed` meets its contract: what the operation wrote stands inside its output.
 -- A law of the operation's outcome says so.
-use mathlib.Core.Path.{_≡_, refl, sym, ap, _∙_}
-use Prim.Native.Nat.{ℕ, _+_, _-_, _*_, _≤_, _<_}
-use native.Mathlib.Omega.{arith}
-use lib.ListN.{length, getD, take, drop}
 use Rattle.bulonkeri.proofs.Fits.{list-inside}
 use borrow.Author.Needs.{needs}
 use Rattle.bulonkeri.proofs.clean.packed.Statement.{statement}
 use Rattle.bulonkeri.proofs.clean.packed.Tie as tie
-use Rattle.bulonkeri.proofs.clean.packed.Reads as reads
-use Rattle.bulonkeri.proofs.clean.packed.Lts as lts
-use Rattle.lists.proofs.packed.packed_list.Reads as packed-list-reads
 
 packed-list-requires : tie.Need-packed-list-requires
 packed-list-requires c κs = search needs

@@ -1,16 +1,9 @@
 -- `read_back` meets its contract: what the operation wrote stands inside its outputs.
 -- A law of the operation's outcome says so.
-use mathlib.Core.Path.{_≡_, refl, sym, ap, _∙_}
-use Prim.Native.Nat.{ℕ, _+_, _-_, _*_, _≤_, _<_}
-use native.Mathlib.Omega.{arith}
-use lib.ListN.{length, getD, take, drop}
 use Rattle.bulonkeri.proofs.Fits.{replay-inside}
 use borrow.Author.Needs.{needs}
 use Rattle.bulonkeri.proofs.clean.read_back.Statement.{statement}
 use Rattle.bulonkeri.proofs.clean.read_back.Tie as tie
-use Rattle.bulonkeri.proofs.clean.read_back.Reads as reads
-use Rattle.bulonkeri.proofs.clean.read_back.Lts as lts
-use Rattle.replay.proofs.replay.Reads as replay-reads
 
 replay-requires : tie.Need-replay-requires
 replay-requires c κs = search needs

@@ -1,21 +1,11 @@
 -- `renew` is safe: the table is not refused, and what was read stands inside its slices.
 -- The rest is found.
-use mathlib.Core.Path.{_≡_, refl, sym, ap, _∙_}
-use Prim.Native.Nat.{ℕ, _+_, _-_, _*_, _≤_, _<_}
+use mathlib.Core.Path.{sym, _∙_}
 use native.Mathlib.Omega.{arith}
-use lib.ListN.{length, getD, take, drop}
-use Rattle.table.specs.Headers.{header-ok}
 use borrow.Author.Needs.{needs}
 use Rattle.bulonkeri.proofs.Renewed.{renewable}
 use Rattle.bulonkeri.proofs.clean.renew.Statement.{statement}
 use Rattle.bulonkeri.proofs.clean.renew.Tie as tie
-use Rattle.bulonkeri.proofs.clean.renew.Reads as reads
-use Rattle.bulonkeri.proofs.clean.renew.Lts as lts
-use Rattle.bulonkeri.proofs.clean.packed.Reads as packed-reads
-use Rattle.bulonkeri.proofs.clean.read_back.Reads as read-back-reads
-use Rattle.bulonkeri.proofs.clean.store_as_asked.Reads as store-as-asked-reads
-use Rattle.bulonkeri.proofs.refusals.refused.Reads as refused-reads
-use Rattle.table_check.proofs.check.Reads as check-reads
 
 check-requires : tie.Need-check-requires
 check-requires c κs = search needs

@@ -1,17 +1,10 @@
 -- `label_letters` meets its contract: what the operation wrote stands inside its outputs, and the labels are statements.
 -- Laws of the operation's outcome say so.
-use mathlib.Core.Path.{_≡_, refl, sym, ap, _∙_}
-use Prim.Native.Nat.{ℕ, _+_, _-_, _*_, _≤_, _<_}
-use native.Mathlib.Omega.{arith}
-use lib.ListN.{length, getD, take, drop}
 use Rattle.bulonkeri.proofs.Fits.{letters-inside}
 use Rattle.bulonkeri.proofs.Lists.{letters-listed}
 use borrow.Author.Needs.{needs}
 use Rattle.bulonkeri.proofs.letters.label_letters.Statement.{statement}
 use Rattle.bulonkeri.proofs.letters.label_letters.Tie as tie
-use Rattle.bulonkeri.proofs.letters.label_letters.Reads as reads
-use Rattle.bulonkeri.proofs.letters.label_letters.Lts as lts
-use Rattle.order.proofs.label_letters.Reads as label-letters-reads
 
 label-letters-requires : tie.Need-label-letters-requires
 label-letters-requires c κs = search needs

@@ -1,18 +1,13 @@
 -- `print_labels` is safe and ends: the label of each listed statement stands in the label bytes.
 -- The measure is how many labels are left.
-use mathlib.Core.Path.{_≡_, refl, sym, ap, _∙_}
-use Prim.Native.Nat.{ℕ, _+_, _-_, _*_, _≤_, _<_}
+use Prim.Native.Nat.{_-_, _≤_}
 use borrow.Author.Needs.{needs}
 use native.Mathlib.Omega.{arith}
-use lib.ListN.{length, getD, take, drop}
+use lib.ListN.{length}
 use Rattle.table.specs.Headers.{header-ok}
 use Rattle.bulonkeri.proofs.Lists.{label-in}
 use Rattle.bulonkeri.proofs.letters.print_labels.Statement.{statement}
 use Rattle.bulonkeri.proofs.letters.print_labels.Tie as tie
-use Rattle.bulonkeri.proofs.letters.print_labels.Reads as reads
-use Rattle.bulonkeri.proofs.letters.print_labels.Lts as lts
-use Rattle.bulonkeri.proofs.letters.print_label.Reads as print-label-reads
-use Rattle.table.proofs.sections.statement_section.Reads as statement-section-reads
 
 abbrev Inv-loop : tie.InvT-loop
 Inv-loop words labels list statements i₀ i = i ≤ length list

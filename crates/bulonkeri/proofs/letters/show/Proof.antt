@@ -1,18 +1,9 @@
 -- `show` is safe: what was listed are statements of the table.
 -- The rest is found.
-use mathlib.Core.Path.{_≡_, refl, sym, ap, _∙_}
-use Prim.Native.Nat.{ℕ, _+_, _-_, _*_, _≤_, _<_}
 use native.Mathlib.Omega.{arith}
-use lib.ListN.{length, getD, take, drop}
 use borrow.Author.Needs.{needs}
 use Rattle.bulonkeri.proofs.letters.show.Statement.{statement}
 use Rattle.bulonkeri.proofs.letters.show.Tie as tie
-use Rattle.bulonkeri.proofs.letters.show.Reads as reads
-use Rattle.bulonkeri.proofs.letters.show.Lts as lts
-use Rattle.bulonkeri.proofs.letters.label_letters.Reads as label-letters-reads
-use Rattle.bulonkeri.proofs.letters.print_labels.Reads as print-labels-reads
-use Rattle.bulonkeri.proofs.printing.print.Reads as print-reads
-use Rattle.bulonkeri.proofs.refusals.refused.Reads as refused-reads
 
 label-letters-requires : tie.Need-label-letters-requires
 label-letters-requires c κs = search needs

@@ -1,14 +1,10 @@
 -- `line_end` meets its contract: the place grows and stays inside the text.
 -- The measure is how much of the text is left.
-use mathlib.Core.Path.{_≡_, refl, sym, ap, _∙_}
-use Prim.Native.Nat.{ℕ, _+_, _-_, _*_, _≤_, _<_}
-use borrow.Author.Needs.{needs}
+use Prim.Native.Nat.{_-_, _≤_}
 use native.Mathlib.Omega.{arith}
-use lib.ListN.{length, getD, take, drop}
+use lib.ListN.{length}
 use Rattle.bulonkeri.proofs.lines.line_end.Statement.{statement}
 use Rattle.bulonkeri.proofs.lines.line_end.Tie as tie
-use Rattle.bulonkeri.proofs.lines.line_end.Reads as reads
-use Rattle.bulonkeri.proofs.lines.line_end.Lts as lts
 
 abbrev Inv-loop : tie.InvT-loop
 Inv-loop text from i₀ i = (i₀ ≤ i) × (i ≤ length text)

@@ -1,16 +1,10 @@
 -- `line_named` is safe and ends: the place is at most one past the text.
 -- The measure is how much of the text is left.
-use mathlib.Core.Path.{_≡_, refl, sym, ap, _∙_}
-use Prim.Native.Nat.{ℕ, _+_, _-_, _*_, _≤_, _<_}
-use borrow.Author.Needs.{needs}
+use Prim.Native.Nat.{_+_, _-_, _≤_}
 use native.Mathlib.Omega.{arith}
-use lib.ListN.{length, getD, take, drop}
+use lib.ListN.{length}
 use Rattle.bulonkeri.proofs.lines.line_named.Statement.{statement}
 use Rattle.bulonkeri.proofs.lines.line_named.Tie as tie
-use Rattle.bulonkeri.proofs.lines.line_named.Reads as reads
-use Rattle.bulonkeri.proofs.lines.line_named.Lts as lts
-use Rattle.bulonkeri.proofs.lines.line_end.Reads as line-end-reads
-use Rattle.check.proofs.same.Reads as same-reads
 
 abbrev Inv-loop : tie.InvT-loop
 Inv-loop text name start₀ k₀ start k = (start ≤ length text + 1) × (k ≤ start)

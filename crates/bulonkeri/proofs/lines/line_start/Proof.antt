@@ -1,15 +1,10 @@
 -- `line_start` meets its contract: the place stays inside the text.
 -- The measure is how many lines are left.
-use mathlib.Core.Path.{_≡_, refl, sym, ap, _∙_}
-use Prim.Native.Nat.{ℕ, _+_, _-_, _*_, _≤_, _<_}
-use borrow.Author.Needs.{needs}
+use Prim.Native.Nat.{_-_, _≤_}
 use native.Mathlib.Omega.{arith}
-use lib.ListN.{length, getD, take, drop}
+use lib.ListN.{length}
 use Rattle.bulonkeri.proofs.lines.line_start.Statement.{statement}
 use Rattle.bulonkeri.proofs.lines.line_start.Tie as tie
-use Rattle.bulonkeri.proofs.lines.line_start.Reads as reads
-use Rattle.bulonkeri.proofs.lines.line_start.Lts as lts
-use Rattle.bulonkeri.proofs.lines.line_end.Reads as line-end-reads
 
 abbrev Inv-loop : tie.InvT-loop
 Inv-loop text k start₀ i₀ start i = (start ≤ length text) × (i ≤ k)

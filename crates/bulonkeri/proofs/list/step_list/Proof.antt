@@ -1,17 +1,9 @@
 -- `step_list` meets its contract: what the operation wrote stands inside its output.
 -- A law of the operation's outcome says so.
-use mathlib.Core.Path.{_≡_, refl, sym, ap, _∙_}
-use Prim.Native.Nat.{ℕ, _+_, _-_, _*_, _≤_, _<_}
-use native.Mathlib.Omega.{arith}
-use lib.ListN.{length, getD, take, drop}
 use Rattle.bulonkeri.proofs.Fits.{list-inside}
 use borrow.Author.Needs.{needs}
 use Rattle.bulonkeri.proofs.list.step_list.Statement.{statement}
 use Rattle.bulonkeri.proofs.list.step_list.Tie as tie
-use Rattle.bulonkeri.proofs.list.step_list.Reads as reads
-use Rattle.bulonkeri.proofs.list.step_list.Lts as lts
-use Rattle.lists.proofs.normal.normal_list.Reads as normal-list-reads
-use Rattle.lists.proofs.packed.packed_list.Reads as packed-list-reads
 
 packed-list-requires : tie.Need-packed-list-requires
 packed-list-requires c κs = search needs

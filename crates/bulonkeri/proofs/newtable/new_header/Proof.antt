@@ -1,17 +1,9 @@
 -- `new_header` meets its contract: the ten words, one by one.
 -- The offsets are those of the old header.
-use mathlib.Core.Path.{_≡_, refl, sym, ap, _∙_}
-use Prim.Native.Nat.{ℕ, _+_, _-_, _*_, _≤_, _<_}
-use native.Mathlib.Omega.{arith}
-use lib.ListN.{length, getD, take, drop}
 use borrow.Author.Needs.{needs}
 use Rattle.bulonkeri.proofs.Renewed.{header-words}
 use Rattle.bulonkeri.proofs.newtable.new_header.Statement.{statement}
 use Rattle.bulonkeri.proofs.newtable.new_header.Tie as tie
-use Rattle.bulonkeri.proofs.newtable.new_header.Reads as reads
-use Rattle.bulonkeri.proofs.newtable.new_header.Lts as lts
-use Rattle.bulonkeri.proofs.newtable.entry_count.Reads as entry-count-reads
-use Rattle.bulonkeri.proofs.newtable.last.Reads as last-reads
 
 entry-count-requires : tie.Need-entry-count-requires
 entry-count-requires c κs = search needs

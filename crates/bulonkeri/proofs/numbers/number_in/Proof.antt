@@ -1,17 +1,9 @@
 -- `number_in` meets its contract: what the bytes say is compared with the bytes again.
 -- Laws of decimals say the rest.
-use mathlib.Core.Path.{_≡_, refl, sym, ap, _∙_}
-use Prim.Native.Nat.{ℕ, _+_, _-_, _*_, _≤_, _<_}
-use native.Mathlib.Omega.{arith}
-use lib.ListN.{length, getD, take, drop}
 use Rattle.bulonkeri.proofs.Texts.{says-number, says-none}
 use borrow.Author.Needs.{needs}
 use Rattle.bulonkeri.proofs.numbers.number_in.Statement.{statement}
 use Rattle.bulonkeri.proofs.numbers.number_in.Tie as tie
-use Rattle.bulonkeri.proofs.numbers.number_in.Reads as reads
-use Rattle.bulonkeri.proofs.numbers.number_in.Lts as lts
-use Rattle.names.proofs.number.is_decimal.Reads as is-decimal-reads
-use Rattle.names.proofs.number.number_of.Reads as number-of-reads
 
 number-of-requires : tie.Need-number-of-requires
 number-of-requires c κs = search needs

@@ -1,18 +1,11 @@
 -- `number_text` meets its contract: a number of 32 bits has at most ten digits.
 -- A law puts the two writers together.
-use mathlib.Core.Path.{_≡_, refl, sym, ap, _∙_}
-use Prim.Native.Nat.{ℕ, _+_, _-_, _*_, _≤_, _<_}
 use native.Mathlib.Omega.{arith}
-use lib.ListN.{length, getD, take, drop}
 use Rattle.names.proofs.Decimals.{digits-most}
 use Rattle.bulonkeri.proofs.Texts.{number-text}
 use borrow.Author.Needs.{needs}
 use Rattle.bulonkeri.proofs.numbers.number_text.Statement.{statement}
 use Rattle.bulonkeri.proofs.numbers.number_text.Tie as tie
-use Rattle.bulonkeri.proofs.numbers.number_text.Reads as reads
-use Rattle.bulonkeri.proofs.numbers.number_text.Lts as lts
-use Rattle.layout.proofs.bytes.put_byte.Reads as put-byte-reads
-use Rattle.names.proofs.decimal.put_decimal.Reads as put-decimal-reads
 
 put-decimal-requires : tie.Need-put-decimal-requires
 put-decimal-requires c κs = search needs

@@ -1,23 +1,10 @@
 -- `load` meets its contract: what is not read counts as 0.
 -- The rest is found.
-use mathlib.Core.Path.{_≡_, refl, sym, ap, _∙_}
-use Prim.Native.Nat.{ℕ, _+_, _-_, _*_, _≤_, _<_}
 use native.Mathlib.Omega.{arith}
-use lib.ListN.{length, getD, take, drop}
 use Rattle.bulonkeri.proofs.Fits.{counts}
 use borrow.Author.Needs.{needs}
 use Rattle.bulonkeri.proofs.reading.load.Statement.{statement}
 use Rattle.bulonkeri.proofs.reading.load.Tie as tie
-use Rattle.bulonkeri.proofs.reading.load.Reads as reads
-use Rattle.bulonkeri.proofs.reading.load.Lts as lts
-use Rattle.bulonkeri.proofs.errors.file_error.Reads as file-error-reads
-use Rattle.bulonkeri.proofs.reading.nothing.Reads as nothing-reads
-use Rattle.bulonkeri.proofs.reading.read_table.Reads as read-table-reads
-use Rattle.io.proofs.buffer.Reads as buffer-reads
-use Rattle.libc.proofs.close.Reads as close-reads
-use Rattle.os.proofs.arg.Reads as arg-reads
-use Rattle.os.proofs.errno.Reads as errno-reads
-use Rattle.os.proofs.open_read.Reads as open-read-reads
 
 buffer-requires : tie.Need-buffer-requires
 buffer-requires c κs = search needs

@@ -1,18 +1,12 @@
 -- `read_bytes` meets its contract: the place stays inside the slice, whose length is kept.
 -- The measure is how many bytes are left.
-use mathlib.Core.Path.{_≡_, refl, sym, ap, _∙_}
-use Prim.Native.Nat.{ℕ, _+_, _-_, _*_, _≤_, _<_}
-use borrow.Author.Needs.{needs}
+use mathlib.Core.Path.{_≡_, refl}
+use Prim.Native.Nat.{_-_, _≤_}
 use native.Mathlib.Omega.{arith}
-use lib.ListN.{length, getD, take, drop}
+use lib.ListN.{length}
 use Rattle.bulonkeri.proofs.Fits.{counts}
-use borrow.Rule.Slice.PartMut.{same-len-mid, mid-len}
 use Rattle.bulonkeri.proofs.reading.read_bytes.Statement.{statement}
 use Rattle.bulonkeri.proofs.reading.read_bytes.Tie as tie
-use Rattle.bulonkeri.proofs.reading.read_bytes.Reads as reads
-use Rattle.bulonkeri.proofs.reading.read_bytes.Lts as lts
-use Rattle.io.proofs.count.Reads as count-reads
-use Rattle.libc.proofs.read.Reads as read-reads
 
 abbrev Inv-loop : tie.InvT-loop
 Inv-loop fd bytes₀ done₀ bytes done = (done ≤ length bytes₀) × (length bytes ≡ length bytes₀)

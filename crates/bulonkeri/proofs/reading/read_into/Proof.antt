@@ -1,16 +1,11 @@
 -- `read_into` meets its contract: the part of the chunk that so many words fill stands inside it.
 -- The rest is found.
-use mathlib.Core.Path.{_≡_, refl, sym, ap, _∙_}
-use Prim.Native.Nat.{ℕ, _+_, _-_, _*_, _≤_, _<_}
+use mathlib.Core.Path.{sym}
 use native.Mathlib.Omega.{arith}
-use lib.ListN.{length, getD, take, drop}
 use lib.Seq.{length-take-le}
 use borrow.Author.Needs.{needs}
 use Rattle.bulonkeri.proofs.reading.read_into.Statement.{statement}
 use Rattle.bulonkeri.proofs.reading.read_into.Tie as tie
-use Rattle.bulonkeri.proofs.reading.read_into.Reads as reads
-use Rattle.bulonkeri.proofs.reading.read_into.Lts as lts
-use Rattle.bulonkeri.proofs.reading.read_chunk.Reads as read-chunk-reads
 
 mul-size : tie.Need-mul-size
 mul-size c = search needs

@@ -1,21 +1,12 @@
 -- `read_table` meets its contract: no more words are read than the slice holds.
 -- What is not read counts as 0.
-use mathlib.Core.Path.{_≡_, refl, sym, ap, _∙_}
-use Prim.Native.Nat.{ℕ, _+_, _-_, _*_, _≤_, _<_}
+use mathlib.Core.Path.{sym}
 use native.Mathlib.Omega.{arith}
-use lib.ListN.{length, getD, take, drop}
 use lib.Seq.{length-take-le}
 use Rattle.bulonkeri.proofs.Fits.{counts}
 use borrow.Author.Needs.{needs}
 use Rattle.bulonkeri.proofs.reading.read_table.Statement.{statement}
 use Rattle.bulonkeri.proofs.reading.read_table.Tie as tie
-use Rattle.bulonkeri.proofs.reading.read_table.Reads as reads
-use Rattle.bulonkeri.proofs.reading.read_table.Lts as lts
-use Rattle.bulonkeri.proofs.errors.too_large.Reads as too-large-reads
-use Rattle.bulonkeri.proofs.reading.nothing.Reads as nothing-reads
-use Rattle.bulonkeri.proofs.reading.read_count.Reads as read-count-reads
-use Rattle.bulonkeri.proofs.reading.read_labels.Reads as read-labels-reads
-use Rattle.bulonkeri.proofs.reading.read_words.Reads as read-words-reads
 
 read-count-requires : tie.Need-read-count-requires
 read-count-requires c κs = search needs

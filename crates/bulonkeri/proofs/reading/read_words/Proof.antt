@@ -1,18 +1,11 @@
 -- `read_words` is safe and ends: the place stays inside the slice, whose length is kept.
 -- The measure is how many words are left.
-use mathlib.Core.Path.{_≡_, refl, sym, ap, _∙_}
-use Prim.Native.Nat.{ℕ, _+_, _-_, _*_, _≤_, _<_}
-use borrow.Author.Needs.{needs}
+use mathlib.Core.Path.{_≡_, refl}
+use Prim.Native.Nat.{_-_, _≤_}
 use native.Mathlib.Omega.{arith}
-use lib.ListN.{length, getD, take, drop}
-use borrow.Rule.Slice.PartMut.{same-len-mid, mid-len}
+use lib.ListN.{length}
 use Rattle.bulonkeri.proofs.reading.read_words.Statement.{statement}
 use Rattle.bulonkeri.proofs.reading.read_words.Tie as tie
-use Rattle.bulonkeri.proofs.reading.read_words.Reads as reads
-use Rattle.bulonkeri.proofs.reading.read_words.Lts as lts
-use Rattle.bulonkeri.proofs.errors.file_error.Reads as file-error-reads
-use Rattle.bulonkeri.proofs.reading.ends_early.Reads as ends-early-reads
-use Rattle.bulonkeri.proofs.reading.read_some.Reads as read-some-reads
 
 abbrev Inv-loop : tie.InvT-loop
 Inv-loop fd path words₀ done₀ t6 words done = (done ≤ length words₀) × (length words ≡ length words₀)

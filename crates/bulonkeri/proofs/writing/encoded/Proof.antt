@@ -1,17 +1,12 @@
 -- `encoded` meets its contract: 1,024 words have 4,096 bytes.
 -- The length of the bytes of words is a law.
-use mathlib.Core.Path.{_≡_, refl, sym, ap, _∙_}
-use Prim.Native.Nat.{ℕ, _+_, _-_, _*_, _≤_, _<_}
 use native.Mathlib.Omega.{arith}
-use lib.ListN.{length, getD, take, drop}
+use lib.ListN.{length}
 use Rattle.table_file.specs.Words.{file-length}
 use Rattle.bulonkeri.proofs.Fits.{counts}
 use borrow.Author.Needs.{needs}
 use Rattle.bulonkeri.proofs.writing.encoded.Statement.{statement}
 use Rattle.bulonkeri.proofs.writing.encoded.Tie as tie
-use Rattle.bulonkeri.proofs.writing.encoded.Reads as reads
-use Rattle.bulonkeri.proofs.writing.encoded.Lts as lts
-use Rattle.table_file.proofs.encode.Reads as encode-reads
 
 encode-requires : tie.Need-encode-requires
 encode-requires c κs = search needs

@@ -1,15 +1,10 @@
 -- `write_words` is safe and ends: the place stays inside the slice.
 -- The measure is how many words are left.
-use mathlib.Core.Path.{_≡_, refl, sym, ap, _∙_}
-use Prim.Native.Nat.{ℕ, _+_, _-_, _*_, _≤_, _<_}
-use borrow.Author.Needs.{needs}
+use Prim.Native.Nat.{_-_, _≤_}
 use native.Mathlib.Omega.{arith}
-use lib.ListN.{length, getD, take, drop}
+use lib.ListN.{length}
 use Rattle.bulonkeri.proofs.writing.write_words.Statement.{statement}
 use Rattle.bulonkeri.proofs.writing.write_words.Tie as tie
-use Rattle.bulonkeri.proofs.writing.write_words.Reads as reads
-use Rattle.bulonkeri.proofs.writing.write_words.Lts as lts
-use Rattle.bulonkeri.proofs.writing.write_chunk.Reads as write-chunk-reads
 
 abbrev Inv-loop : tie.InvT-loop
 Inv-loop fd words done₀ done = done ≤ length words
