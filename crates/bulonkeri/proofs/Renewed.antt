@@ -1,19 +1,13 @@
--- The header of the new table, word by word: the offsets of the old header are those that a good header has.
+-- What was read back stands inside its slices and the table is not refused: so it can be written as a new table.
 use mathlib.Core.Path.{_≡_}
-use mathlib.Core.List.{List, [], _∷_}
-use Prim.Native.Nat.{ℕ, _+_, _-_, _*_, _/_, _≤_}
+use mathlib.Core.List.{List}
+use Prim.Native.Nat.{ℕ, _≤_}
 use native.Mathlib.Omega.{arith}
-use lib.ListN.{length, getD, take}
+use lib.ListN.{length, take}
 use Rattle.io.specs.Counts.{Counts}
-use Rattle.defs.specs.Table.{entrySize}
 use Rattle.defs.specs.Check.{tableRefusal}
-use Rattle.defs.specs.Checked.{HeaderOk}
 use Rattle.table.specs.Headers.{header-ok}
-use Rattle.bulonkeri.specs.NewTables.{mostEntryWords, mostChildWords, Renewable, newHeader}
-
-pub header-words : (w built kids : List ℕ) {n l : ℕ} → HeaderOk w → n ≡ length built / entrySize → l ≡ n - 1
-    → getD w 0 0 ∷ getD w 1 0 ∷ n ∷ length kids ∷ 10 ∷ getD w 5 0 ∷ getD w 6 0 ∷ (getD w 6 0 + 3 * n) ∷ getD w 8 0 ∷ l ∷ [] ≡ newHeader w built kids
-header-words w built kids h e f = rw (h .at5, h .at6, f, e)
+use Rattle.new_table.specs.NewTables.{mostEntryWords, mostChildWords, Renewable}
 
 pub renewable : (w b entries children : List ℕ) {built kids : ℕ} → tableRefusal w b ≡ 0 → length entries ≤ mostEntryWords → length children ≤ mostChildWords
     → Counts built entries → Counts kids children → Renewable w (take built entries) (take kids children)

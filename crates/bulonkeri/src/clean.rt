@@ -5,19 +5,19 @@ use crate::limits::CHILD_WORDS;
 use crate::limits::ENTRY_WORDS;
 use crate::limits::LIST_WORDS;
 use crate::limits::WORK_WORDS;
-use crate::newtable::entry_count;
-use crate::newtable::write_table;
 use crate::numbers::print_number;
 use crate::printing::print;
 use crate::refusals::refused;
+use crate::writing::write_table;
 use lists::packed::packed_list;
+use new_table::entry_count;
 use table::Written;
 use table::WrittenTwo;
 use table_check::check;
 ghost use Prim.Native.Nat.{_≤_};
 ghost use lib.ListN.{length};
 ghost use Rattle.io.specs.Counts.{Counts};
-ghost use Rattle.bulonkeri.specs.NewTables.{mostEntryWords, mostChildWords, Renewable};
+ghost use Rattle.new_table.specs.NewTables.{mostEntryWords, mostChildWords, Renewable};
 
 // The library's operations; what they wrote stands at the front of the outputs.
 fn packed(words: &[u32], labels: &[u8], work: &mut [u32], steps: &mut [u32]) -> Written

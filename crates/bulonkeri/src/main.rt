@@ -10,7 +10,6 @@ mod letters; // letters.rt: the command letters
 mod limits; // limits.rt: the sizes of the program's arrays
 mod lines; // lines.rt: lines of a text
 mod list; // list.rt: the command list
-mod newtable; // newtable.rt: a table with new entries and children
 mod numbers; // numbers.rt: numbers as decimals, printed and read
 mod parents; // parents.rt: the command parents
 mod printing; // printing.rt: bytes printed

@@ -1,9 +1,14 @@
 // A table file written.
+use new_table::new_header;
+use new_table::whole_length;
+use table::limits::HEADER_WORDS;
+use table::numbers::wide;
 use table_file::bytes_of;
 use table_file::encode;
 ghost use Prim.Native.Nat.{_≤_};
 ghost use lib.ListN.{length};
 ghost use Rattle.io.specs.Counts.{Counts};
+ghost use Rattle.new_table.specs.NewTables.{Renewable};
 
 const CHUNK_BYTES: usize = 4096;
 
@@ -26,7 +31,7 @@ fn write_chunk(fd: i32, words: &[u32]) -> bool
 }
 
 // Writes the words, and answers whether the file took them all.
-pub fn write_words(fd: i32, words: &[u32]) -> bool {
+fn write_words(fd: i32, words: &[u32]) -> bool {
     let mut done: usize = 0;
     while words.len() - done > CHUNK_WORDS {
         let end = done + CHUNK_WORDS;
@@ -39,7 +44,31 @@ pub fn write_words(fd: i32, words: &[u32]) -> bool {
 }
 
 // The count of words, with which a table file begins.
-pub fn write_count(fd: i32, count: u32) -> bool {
+fn write_count(fd: i32, count: u32) -> bool {
     let four = bytes_of(count);
     io::write_all(fd, &four)
+}
+
+// The table file of the statements and hypotheses of `words` with new entries and children: answers whether the file took it all.
+pub fn write_table(fd: i32, words: &[u32], labels: &[u8], entries: &[u32], children: &[u32]) -> bool
+    requires { ⌜ Renewable (now words) (now entries) (now children) ⌝ }
+{
+    let from = wide(words[6]);
+    let header = new_header(words, entries, children);
+    if !write_count(fd, whole_length(words, entries, children)) {
+        return false;
+    }
+    if !write_words(fd, &header) {
+        return false;
+    }
+    if !write_words(fd, &words[HEADER_WORDS..from]) {
+        return false;
+    }
+    if !write_words(fd, entries) {
+        return false;
+    }
+    if !write_words(fd, children) {
+        return false;
+    }
+    io::write_all(fd, labels)
 }

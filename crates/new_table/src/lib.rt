@@ -1,14 +1,11 @@
-// A table with new entries and children, written to a file.
-use crate::writing::write_count;
-use crate::writing::write_words;
+// A table with the statements and hypotheses of another, and new entries and children: its header and its length.
 use table::limits::ENTRY_WORDS;
 use table::limits::HEADER_WORDS;
-use table::numbers::wide;
 ghost use mathlib.Core.Path.{_≡_};
 ghost use Prim.Native.Nat.{_≤_, _-_, _+_, _/_};
 ghost use lib.ListN.{length};
 ghost use Rattle.defs.specs.Table.{entrySize, entriesFrom};
-ghost use Rattle.bulonkeri.specs.NewTables.{mostEntryWords, Renewable, newHeader};
+ghost use Rattle.new_table.specs.NewTables.{mostEntryWords, Renewable, newHeader};
 
 pub fn entry_count(entries: &[u32]) -> u32
     requires { ⌜ length (now entries) ≤ mostEntryWords ⌝ }
@@ -25,7 +22,7 @@ fn last(count: u32) -> u32
 }
 
 // The header of the new table.
-fn new_header(words: &[u32], entries: &[u32], children: &[u32]) -> [u32; HEADER_WORDS]
+pub fn new_header(words: &[u32], entries: &[u32], children: &[u32]) -> [u32; HEADER_WORDS]
     requires { ⌜ Renewable (now words) (now entries) (now children) ⌝ }
     ensures { λ r. ⌜ r ≡ newHeader (now (words .entry)) (now (entries .entry)) (now (children .entry)) ⌝ }
 {
@@ -46,33 +43,9 @@ fn new_header(words: &[u32], entries: &[u32], children: &[u32]) -> [u32; HEADER_
 }
 
 // How many words the new table has.
-fn whole_length(words: &[u32], entries: &[u32], children: &[u32]) -> u32
+pub fn whole_length(words: &[u32], entries: &[u32], children: &[u32]) -> u32
     requires { ⌜ Renewable (now words) (now entries) (now children) ⌝ }
     ensures { λ r. ⌜ r ≡ entriesFrom (now (words .entry)) + length (now (entries .entry)) + length (now (children .entry)) ⌝ }
 {
     words[6] + entries.len() as u32 + children.len() as u32
-}
-
-// The table file of the statements and hypotheses of `words` with new entries and children: answers whether the file took it all.
-pub fn write_table(fd: i32, words: &[u32], labels: &[u8], entries: &[u32], children: &[u32]) -> bool
-    requires { ⌜ Renewable (now words) (now entries) (now children) ⌝ }
-{
-    let from = wide(words[6]);
-    let header = new_header(words, entries, children);
-    if !write_count(fd, whole_length(words, entries, children)) {
-        return false;
-    }
-    if !write_words(fd, &header) {
-        return false;
-    }
-    if !write_words(fd, &words[HEADER_WORDS..from]) {
-        return false;
-    }
-    if !write_words(fd, entries) {
-        return false;
-    }
-    if !write_words(fd, children) {
-        return false;
-    }
-    io::write_all(fd, labels)
 }

@@ -1,9 +1,9 @@
 -- `new_header` meets its contract: the ten words, one by one.
 -- The offsets are those of the old header.
 use borrow.Author.Needs.{needs}
-use Rattle.bulonkeri.proofs.Renewed.{header-words}
-use Rattle.bulonkeri.proofs.newtable.new_header.Statement.{statement}
-use Rattle.bulonkeri.proofs.newtable.new_header.Tie as tie
+use Rattle.new_table.proofs.Headers.{header-words}
+use Rattle.new_table.proofs.new_header.Statement.{statement}
+use Rattle.new_table.proofs.new_header.Tie as tie
 
 entry-count-requires : tie.Need-entry-count-requires
 entry-count-requires c κs = search needs
