@@ -16,12 +16,15 @@ pub enum Command {
     Clean,
 }
 
+// The number past the last command.
+const NO_COMMAND: usize = 6;
+
 pub enum Asked {
     For(Command),
     Nothing,
 }
 
-// Wrong arguments of the command with this number.
+// Wrong arguments of the command with this number, the place of its name in `command_named`.
 pub fn wrong(number: usize) -> Asked {
     arguments_error(number);
     Asked::Nothing
@@ -56,7 +59,7 @@ pub fn read_command() -> Asked {
     let mut name = [0u8; 16];
     let length = os::arg(1, &mut name);
     if os::errno() != 0 {
-        return wrong(6);
+        return wrong(NO_COMMAND);
     }
     command_named(&name[..length])
 }

@@ -53,7 +53,7 @@ fn label_letters(
     order::label_letters(words, labels, layout, work, sums, list, letters)
 }
 
-// The label of a statement, and a blank.
+// The label of a statement, and a newline.
 fn print_label(statements: &[u32], labels: &[u8], k: StatementNo) -> bool
     requires { ⌜ LabelIn (now statements) (now labels) (k .0) ⌝ }
 {

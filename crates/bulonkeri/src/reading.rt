@@ -131,11 +131,10 @@ fn read_count(fd: i32, path: &[u8]) -> Count {
     Count::Is(wide(word(&four, 0)))
 }
 
-// Whether the file ends here.
-fn at_end(fd: i32) -> bool {
+// One byte more: none where the file ends here.
+fn read_past(fd: i32) -> Got {
     let mut one = [0u8; 1];
-    let got = read_bytes(fd, &mut one);
-    got.count == 0
+    read_bytes(fd, &mut one)
 }
 
 fn nothing() -> Loaded
@@ -154,24 +153,14 @@ fn read_labels(fd: i32, path: &[u8], labels: &mut [u8], words: usize) -> Loaded
     ensures { λ r. ⌜ r .words ≡ words ⌝ }
 {
     let got = read_bytes(fd, labels);
-    if got.failed {
+    let past = read_past(fd);
+    if got.failed || past.failed {
         file_error(b"read", path);
-        return Loaded {
-            done: false,
-            words,
-            labels: 0,
-        };
-    }
-    if !at_end(fd) {
+    } else if 0 < past.count {
         too_large(b"more label bytes than", LABEL_BYTES as u32);
-        return Loaded {
-            done: false,
-            words,
-            labels: 0,
-        };
     }
     Loaded {
-        done: true,
+        done: !got.failed && !past.failed && past.count == 0,
         words,
         labels: got.count,
     }
