@@ -1,4 +1,5 @@
--- The length of a long array of zeros, with no step for each element: `search` and `omega` would count them.
+-- The length of a long array of zeros.
+-- A law gives it with no step for each element: `search` and `omega` would count them.
 use mathlib.Core.Path.{_≡_, sym}
 use Prim.Native.Nat.{ℕ}
 use lib.ListN.{length, replicate, length-replicate}

@@ -1,4 +1,5 @@
--- The label list of a table that is not refused has statements of the table: so labels can be printed.
+-- The label list of a table that is not refused has statements of the table, whose labels stand in the label bytes.
+-- An answer of 0 means that every test passed; then the list is the definition's, of which a law of defs says so.
 use mathlib.Core.Path.{_≡_, refl, sym, ap, _∙_}
 use mathlib.Core.Bool.{Bool, false}
 use mathlib.Core.List.{List, [], _∷_, _++_}

@@ -1,4 +1,5 @@
 -- What was read back stands inside its slices and the table is not refused: so it can be written as a new table.
+-- The slices are as long as the limits of entries and children.
 use mathlib.Core.Path.{_≡_}
 use mathlib.Core.List.{List}
 use Prim.Native.Nat.{ℕ, _≤_}

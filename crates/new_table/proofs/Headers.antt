@@ -1,4 +1,5 @@
--- The header of the new table, word by word: the offsets of the old header are those that a good header has.
+-- The header of the new table, word by word.
+-- The offsets of the old header are those that a good header has.
 use mathlib.Core.Path.{_≡_}
 use mathlib.Core.List.{List, [], _∷_}
 use Prim.Native.Nat.{ℕ, _+_, _-_, _*_, _/_}
