@@ -1,0 +1,5 @@
+mod Arrays
+mod Fits
+mod Lists
+mod Renewed
+mod Texts

@@ -1,0 +1,40 @@
+// How the program is called, and how each command is.
+use crate::lines::print_line;
+use crate::printing::print;
+
+pub fn usage() {
+    print(
+        b"usage: bulonkeri COMMAND FILE ..
+
+  check FILE                           is it a good table?
+  parents FILE                         how many parents each entry has
+  distances FILE                       how far each entry is from QED; 65535 where it cannot be reached
+  list FILE KIND                       a step list, normal, packed, explicit or packed-explicit: five numbers
+                                       a step, reference, mark, statement, parent statement plus 1, hypothesis
+  letters FILE [WIDTH INDENT FIRST]    the label list and the letters; without a layout 79 6 0
+  clean FILE NEWFILE                   the packed list, read back and written as a new table file
+
+FILE is a table file: a count of words and that many words, all u32 little-endian, then the label bytes.
+The first word printed says what came of it: done, refused (with document 01's number and its reason),
+too large (for the program's memory), error (in the arguments or with a file) or usage.
+
+Limits: 262144 label bytes, normal lists of 65536 steps; else those of document 01.
+",
+    );
+}
+
+// The forms of the commands, in the order of their numbers; then what stands for all of them.
+pub fn arguments_error(command: usize) {
+    print(b"error: expected ");
+    print_line(
+        b"check FILE
+parents FILE
+distances FILE
+list FILE normal|packed|explicit|packed-explicit
+letters FILE [WIDTH INDENT FIRST], each a number up to 100000
+clean FILE NEWFILE
+check, parents, distances, list, letters or clean
+",
+        command,
+    );
+}
