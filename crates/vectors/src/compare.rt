@@ -8,8 +8,9 @@ use table::numbers::wide;
 use table_file::decode;
 use table_file::word;
 ghost use mathlib.Core.Path.{_≡_};
-ghost use Prim.Native.Nat.{_-_};
+ghost use Prim.Native.Nat.{_-_, _≤_};
 ghost use lib.ListN.{length};
+ghost use Rattle.vectors.specs.Compared.{differentAfter, differentAt};
 
 // An answer is stored as its length and its hash; this length is for one that the Rust does not give, or that is too long to compare.
 const LEFT_OUT: u32 = 4294967295;
@@ -24,22 +25,32 @@ fn left(stored: &[u8], at: usize) -> usize
     stored.len() - at
 }
 
+// Counts an answer as equal to the stored one or different from it.
+fn judge(tally: Tally, name: &[u8], answer: Answer, length: u32, hash: u32) -> Tally
+    ensures { λ r. ⌜ r .different ≡ differentAfter (answer .number) (answer .length) (answer .hash) length hash (tally .different) ⌝ }
+{
+    if length == LEFT_OUT {
+        return tally;
+    }
+    if is_stored(answer, length as usize, hash as u64) {
+        return tally.with_equal();
+    }
+    tally.print_difference(name);
+    tally.with_different()
+}
+
 // Compares an answer with the stored one, which is the next in the data.
-fn compare(stored: &[u8], tally: Tally, name: &[u8], answer: Answer) -> Tally {
+fn compare(stored: &[u8], tally: Tally, name: &[u8], answer: Answer) -> Tally
+    ensures { λ r. ⌜ (8 ≤ length (now (stored .entry)) - tally .at
+        → r .different ≡ differentAt (now (stored .entry)) (tally .at) (answer .number) (answer .length) (answer .hash) (tally .different)) ⌝ }
+{
     let at = tally.at;
     if left(stored, at) < 8 {
         return tally.malformed();
     }
     let length = word(stored, at);
     let hash = word(stored, at + 4);
-    if length == LEFT_OUT {
-        return tally.without(at + 8);
-    }
-    if is_stored(answer, length as usize, hash as u64) {
-        return tally.with_equal(at + 8);
-    }
-    tally.print_difference(name);
-    tally.with_different(at + 8)
+    judge(tally.moved_to(at + 8), name, answer, length, hash)
 }
 
 fn compare_counts(
@@ -119,7 +130,7 @@ fn compare_layout(
         indent: word(stored, at + 4),
         first: word(stored, at + 8),
     };
-    let begun = tally.with_layout(at + 12);
+    let begun = tally.moved_to(at + 12).with_layout();
     let both = answers::label_letters(words, labels, layout, work, sums, out, bytes);
     let listed = compare(stored, begun, b"label list", both.labels);
     let lettered = compare(stored, listed, b"letters", both.letters);
@@ -206,7 +217,7 @@ pub fn compare_table(
     }
     let end = middle + size;
     decode(&stored[start..middle], words);
-    let begun = tally.with_table(end);
+    let begun = tally.moved_to(end).with_table();
     compare_answers(
         stored,
         begun,

@@ -1,6 +1,8 @@
 // How far the data is compared, and what came of it.
 use crate::printing::print;
 use crate::printing::print_number;
+ghost use mathlib.Core.Path.{_≡_};
+ghost use Rattle.vectors.specs.Compared.{more};
 
 pub struct Tally {
     // the place in the data
@@ -27,71 +29,42 @@ impl Tally {
     }
 
     // Data that is not as it must be.
-    pub fn malformed(self) -> Self {
-        Self {
-            at: self.at,
-            tables: self.tables,
-            layouts: self.layouts,
-            compared: self.compared,
-            different: self.different,
-            well_formed: false,
-        }
+    pub fn malformed(mut self) -> Self {
+        self.well_formed = false;
+        self
     }
 
-    pub fn with_table(self, at: usize) -> Self {
-        Self {
-            at,
-            tables: more(self.tables),
-            layouts: 0,
-            compared: self.compared,
-            different: self.different,
-            well_formed: self.well_formed,
-        }
+    pub fn moved_to(mut self, at: usize) -> Self
+        ensures { λ r. ⌜ r .different ≡ self .different ⌝ }
+    {
+        self.at = at;
+        self
     }
 
-    pub fn with_layout(self, at: usize) -> Self {
-        Self {
-            at,
-            tables: self.tables,
-            layouts: more(self.layouts),
-            compared: self.compared,
-            different: self.different,
-            well_formed: self.well_formed,
-        }
+    pub fn with_table(mut self) -> Self {
+        self.tables = more(self.tables);
+        self.layouts = 0;
+        self
     }
 
-    // An answer that is not stored.
-    pub fn without(self, at: usize) -> Self {
-        Self {
-            at,
-            tables: self.tables,
-            layouts: self.layouts,
-            compared: self.compared,
-            different: self.different,
-            well_formed: self.well_formed,
-        }
+    pub fn with_layout(mut self) -> Self {
+        self.layouts = more(self.layouts);
+        self
     }
 
-    pub fn with_equal(self, at: usize) -> Self {
-        Self {
-            at,
-            tables: self.tables,
-            layouts: self.layouts,
-            compared: more(self.compared),
-            different: self.different,
-            well_formed: self.well_formed,
-        }
+    pub fn with_equal(mut self) -> Self
+        ensures { λ r. ⌜ r .different ≡ self .different ⌝ }
+    {
+        self.compared = more(self.compared);
+        self
     }
 
-    pub fn with_different(self, at: usize) -> Self {
-        Self {
-            at,
-            tables: self.tables,
-            layouts: self.layouts,
-            compared: more(self.compared),
-            different: more(self.different),
-            well_formed: self.well_formed,
-        }
+    pub fn with_different(mut self) -> Self
+        ensures { λ r. ⌜ r .different ≡ more (self .different) ⌝ }
+    {
+        self.compared = more(self.compared);
+        self.different = more(self.different);
+        self
     }
 
     // Tables and layouts are counted from 1; a line with layout 0 is of an answer that needs none.
@@ -121,10 +94,11 @@ impl Tally {
 }
 
 // One more, as far as can be counted.
-fn more(count: u64) -> u64 {
+fn more(count: u64) -> u64
+    ensures { λ r. ⌜ r ≡ more count ⌝ }
+{
     if count < 18446744073709551615 {
-        count + 1
-    } else {
-        count
+        return count + 1;
     }
+    count
 }

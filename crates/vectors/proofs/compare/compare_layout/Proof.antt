@@ -29,8 +29,11 @@ add-word-2 c = search needs
 word-requires-3 : tie.Need-word-requires-3
 word-requires-3 c κs = search needs
 
-add-with-layout : tie.Need-add-with-layout
-add-with-layout c = search needs
+add-moved-to : tie.Need-add-moved-to
+add-moved-to c = search needs
+
+moved-to-requires : tie.Need-moved-to-requires
+moved-to-requires c κs = search needs
 
 with-layout-requires : tie.Need-with-layout-requires
 with-layout-requires c κs = search needs
@@ -80,7 +83,8 @@ compare-layout-spec =
     word-requires-2
     add-word-2
     word-requires-3
-    add-with-layout
+    add-moved-to
+    moved-to-requires
     with-layout-requires
     label-letters-requires
     slice-aggregate-compare

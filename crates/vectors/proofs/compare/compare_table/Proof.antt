@@ -85,6 +85,9 @@ part-decode-end c = search needs
 decode-requires : tie.Need-decode-requires
 decode-requires c κs = search needs
 
+moved-to-requires : tie.Need-moved-to-requires
+moved-to-requires c κs = search needs
+
 with-table-requires : tie.Need-with-table-requires
 with-table-requires c κs = search needs
 
@@ -154,6 +157,7 @@ compare-table-spec =
     part-decode-start
     part-decode-end
     decode-requires
+    moved-to-requires
     with-table-requires
     slice-reshare-prefix-compare-answers
     slice-aggregate-compare-answers
