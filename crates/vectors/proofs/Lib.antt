@@ -1,0 +1,3 @@
+mod Arrays
+mod ComparedLaws
+mod HashLaws
