@@ -21,6 +21,9 @@ pub const LIST_WORDS: usize = 327680;
 // A step has at most five letters, since fewer than 15,620 things have a number, and `Z`.
 pub const LETTER_BYTES: usize = 393216;
 
+// Texts, five times the longest packed text of set.mm.
+pub const TEXT_BYTES: usize = 524288;
+
 pub const MOST_STATEMENTS: usize = 4096;
 
 pub const MOST_ENTRIES: usize = 8192;

@@ -16,6 +16,7 @@ mod printing; // printing.rt: bytes printed
 mod reading; // reading.rt: a table file read
 mod refusals; // refusals.rt: document 01's reasons in words
 mod rows; // rows.rt: rows of numbers printed
+mod texting; // texting.rt: the command text
 mod usage; // usage.rt: how the program is called
 mod writing; // writing.rt: a table file written
 
@@ -31,6 +32,7 @@ fn answer(command: Command, words: &[u32], labels: &[u8]) {
         Command::Distances => distances::run(words, labels),
         Command::List(kind) => list::run(words, labels, kind),
         Command::Letters(layout) => letters::run(words, labels, layout),
+        Command::Text(form) => texting::run(words, labels, form),
         Command::Clean => clean::run(words, labels),
     }
 }
