@@ -7,6 +7,7 @@ use crate::texting;
 use crate::texting::TextForm;
 use crate::usage::arguments_error;
 use crate::usage::usage;
+use crate::verifying;
 use layout::Layout;
 
 pub enum Command {
@@ -16,11 +17,12 @@ pub enum Command {
     List(ListKind),
     Letters(Layout),
     Text(TextForm),
+    Verify(Layout),
     Clean,
 }
 
 // The number past the last command.
-const NO_COMMAND: usize = 7;
+const NO_COMMAND: usize = 8;
 
 pub enum Asked {
     For(Command),
@@ -43,7 +45,7 @@ fn with_arguments(count: usize, command: Command, number: usize) -> Asked {
 
 fn command_named(name: &[u8]) -> Asked {
     let number = line_named(
-        b"check\nparents\ndistances\nlist\nletters\ntext\nclean\n",
+        b"check\nparents\ndistances\nlist\nletters\ntext\nverify\nclean\n",
         name,
     );
     match number {
@@ -53,7 +55,8 @@ fn command_named(name: &[u8]) -> Asked {
         3 => list::read_command(number),
         4 => letters::read_command(number),
         5 => texting::read_command(number),
-        6 => with_arguments(4, Command::Clean, number),
+        6 => verifying::read_command(number),
+        7 => with_arguments(4, Command::Clean, number),
         _ => wrong(number),
     }
 }

@@ -4,7 +4,7 @@ use crate::asked::Command;
 use crate::asked::wrong;
 use crate::errors::too_large;
 use crate::layouts::LayoutAsked;
-use crate::layouts::layout_arguments;
+use crate::layouts::layout_from;
 use crate::limits::TEXT_BYTES;
 use crate::limits::WORK_SUMS;
 use crate::limits::WORK_WORDS;
@@ -53,20 +53,13 @@ fn style_argument() -> Number {
 
 // The style, if any, is the third argument, and the layout, if any, the arguments after it; `number` is the command's.
 pub fn read_command(number: usize) -> Asked {
-    let count = os::arg_count();
-    if count == 3 {
+    if os::arg_count() == 3 {
         return asked_for(0, Layout::standard());
-    }
-    if count != 4 && count != 7 {
-        return wrong(number);
     }
     let Number::Is(style) = style_argument() else {
         return wrong(number);
     };
-    if count == 4 {
-        return asked_for(style, Layout::standard());
-    }
-    let LayoutAsked::Is(layout) = layout_arguments(4) else {
+    let LayoutAsked::Is(layout) = layout_from(4) else {
         return wrong(number);
     };
     asked_for(style, layout)

@@ -11,7 +11,7 @@ slice-aggregate-show-2 : tie.Need-slice-aggregate-show-2
 slice-aggregate-show-2 c = long 1048832
 
 slice-aggregate-show-3 : tie.Need-slice-aggregate-show-3
-slice-aggregate-show-3 c = long 524288
+slice-aggregate-show-3 c = long 393216
 
 show-requires : tie.Need-show-requires
 show-requires c κs = tt
