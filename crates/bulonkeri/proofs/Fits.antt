@@ -12,7 +12,7 @@ use Rattle.io.specs.Counts.{Counts}
 use Rattle.laws.specs.Tools.{overZero}
 use Rattle.laws.specs.Lists.{boole}
 use Rattle.defs.specs.Layout.{Layout}
-use Rattle.defs.specs.Outcome.{Outcome, answerOne, answerTwo, lengthAfter, outAfter, oneOutput, twoOutputs, parentsOutcome, distancesOutcome, stepListOutcome, lettersOutcome}
+use Rattle.defs.specs.Outcome.{Outcome, answerOne, answerTwo, lengthAfter, outAfter, oneOutput, twoOutputs, parentsOutcome, distancesOutcome, stepListOutcome, lettersOutcome, textOutcome}
 use Rattle.defs.specs.Replay.{Turn, refused, going, settled, unchanged, replayed, replayFirst, stepsIn, replayOutcome}
 
 pub counts : (n : ℕ) (xs : List ℕ) → n ≤ length xs → Counts n xs
@@ -61,6 +61,11 @@ pub letters-inside : (w b : List ℕ) (l : Layout) (work₀ sums₀ list₀ lett
     → Counts first list × Counts second letters
 unfolding lettersOutcome
 letters-inside w b l work₀ sums₀ list₀ letters₀ e = two-inside _ _ _ _ _ _ e
+
+pub text-inside : (w b : List ℕ) (style : ℕ) (l : Layout) (work₀ sums₀ out₀ : List ℕ) {number len : ℕ} {work sums out : List ℕ}
+    → answerOne number len (work ∷ sums ∷ []) out ≡ textOutcome w b style l work₀ sums₀ out₀ → Counts len out
+unfolding textOutcome
+text-inside w b style l work₀ sums₀ out₀ e = one-inside _ _ _ _ e
 
 -- ---- replay
 

@@ -3,8 +3,11 @@ use crate::letters;
 use crate::lines::line_named;
 use crate::list;
 use crate::list::ListKind;
+use crate::texting;
+use crate::texting::TextForm;
 use crate::usage::arguments_error;
 use crate::usage::usage;
+use crate::verifying;
 use layout::Layout;
 
 pub enum Command {
@@ -13,11 +16,13 @@ pub enum Command {
     Distances,
     List(ListKind),
     Letters(Layout),
+    Text(TextForm),
+    Verify(Layout),
     Clean,
 }
 
 // The number past the last command.
-const NO_COMMAND: usize = 6;
+const NO_COMMAND: usize = 8;
 
 pub enum Asked {
     For(Command),
@@ -39,14 +44,19 @@ fn with_arguments(count: usize, command: Command, number: usize) -> Asked {
 }
 
 fn command_named(name: &[u8]) -> Asked {
-    let number = line_named(b"check\nparents\ndistances\nlist\nletters\nclean\n", name);
+    let number = line_named(
+        b"check\nparents\ndistances\nlist\nletters\ntext\nverify\nclean\n",
+        name,
+    );
     match number {
         0 => with_arguments(3, Command::Check, number),
         1 => with_arguments(3, Command::Parents, number),
         2 => with_arguments(3, Command::Distances, number),
         3 => list::read_command(number),
         4 => letters::read_command(number),
-        5 => with_arguments(4, Command::Clean, number),
+        5 => texting::read_command(number),
+        6 => verifying::read_command(number),
+        7 => with_arguments(4, Command::Clean, number),
         _ => wrong(number),
     }
 }

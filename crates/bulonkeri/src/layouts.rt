@@ -20,7 +20,7 @@ fn number_argument(i: usize) -> Number {
 }
 
 // The layout of the three arguments from i on.
-pub fn layout_arguments(i: usize) -> LayoutAsked
+fn layout_arguments(i: usize) -> LayoutAsked
     requires { ⌜ i < 1000 ⌝ }
 {
     let Number::Is(width) = number_argument(i) else {
@@ -37,4 +37,18 @@ pub fn layout_arguments(i: usize) -> LayoutAsked
         indent,
         first,
     })
+}
+
+// The layout of all arguments from i on: the standard one where there are none.
+pub fn layout_from(i: usize) -> LayoutAsked
+    requires { ⌜ i < 1000 ⌝ }
+{
+    let count = os::arg_count();
+    if count == i {
+        return LayoutAsked::Is(Layout::standard());
+    }
+    if count != i + 3 {
+        return LayoutAsked::None;
+    }
+    layout_arguments(i)
 }

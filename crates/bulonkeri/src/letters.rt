@@ -3,7 +3,7 @@ use crate::asked::Asked;
 use crate::asked::Command;
 use crate::asked::wrong;
 use crate::layouts::LayoutAsked;
-use crate::layouts::layout_arguments;
+use crate::layouts::layout_from;
 use crate::limits::LETTER_BYTES;
 use crate::limits::MOST_STATEMENTS;
 use crate::limits::WORK_SUMS;
@@ -23,14 +23,7 @@ ghost use Rattle.bulonkeri.specs.Listed.{LabelIn, Listed};
 
 // The layout, if any, is the arguments from the third on; `number` is the command's.
 pub fn read_command(number: usize) -> Asked {
-    let count = os::arg_count();
-    if count == 3 {
-        return Asked::For(Command::Letters(Layout::standard()));
-    }
-    if count != 6 {
-        return wrong(number);
-    }
-    let LayoutAsked::Is(layout) = layout_arguments(3) else {
+    let LayoutAsked::Is(layout) = layout_from(3) else {
         return wrong(number);
     };
     Asked::For(Command::Letters(layout))

@@ -21,6 +21,21 @@ pub const LIST_WORDS: usize = 327680;
 // A step has at most five letters, since fewer than 15,620 things have a number, and `Z`.
 pub const LETTER_BYTES: usize = 393216;
 
+// Texts: as many bytes as letters, more than three times the packed explicit text of set.mm's largest table.
+pub const TEXT_BYTES: usize = 393216;
+
+// What verify lends beside the working words: normal lists of 100,000 steps; packed lists of 9,600 steps, the letters of so many, and
+// as many children as so many steps take; and the sums of 2,456 statements at width 79.
+pub const VERIFY_NORMAL: usize = 500000;
+
+pub const VERIFY_PACKED: usize = 48000;
+
+pub const VERIFY_LETTERS: usize = 57600;
+
+pub const VERIFY_CHILDREN: usize = 9600;
+
+pub const VERIFY_SUMS: usize = 196608;
+
 pub const MOST_STATEMENTS: usize = 4096;
 
 pub const MOST_ENTRIES: usize = 8192;

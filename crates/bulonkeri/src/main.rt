@@ -1,5 +1,5 @@
 // The program `bulonkeri COMMAND FILE ..`: reads a table file and prints what an operation of the library answers.
-// A program has no exit status, so the first word of its output says which it was: done, refused, too (large), error, or usage.
+// A program has no exit status, so the first word of its output says which it was: done, differ, refused, too (large), error, or usage.
 mod asked; // asked.rt: which command is asked for
 mod checking; // checking.rt: the command check
 mod clean; // clean.rt: the command clean
@@ -16,7 +16,9 @@ mod printing; // printing.rt: bytes printed
 mod reading; // reading.rt: a table file read
 mod refusals; // refusals.rt: document 01's reasons in words
 mod rows; // rows.rt: rows of numbers printed
+mod texting; // texting.rt: the command text
 mod usage; // usage.rt: how the program is called
+mod verifying; // verifying.rt: the command verify
 mod writing; // writing.rt: a table file written
 
 use asked::Asked;
@@ -31,6 +33,8 @@ fn answer(command: Command, words: &[u32], labels: &[u8]) {
         Command::Distances => distances::run(words, labels),
         Command::List(kind) => list::run(words, labels, kind),
         Command::Letters(layout) => letters::run(words, labels, layout),
+        Command::Text(form) => texting::run(words, labels, form),
+        Command::Verify(layout) => verifying::run(words, labels, layout),
         Command::Clean => clean::run(words, labels),
     }
 }
