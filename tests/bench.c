@@ -17,6 +17,7 @@ uint32_t bulonkeri_packed_list(TABLE, bool, uint32_t *, size_t, uint32_t *, size
 uint32_t bulonkeri_normal_list(TABLE, bool, uint32_t *, size_t, uint32_t *, size_t, uint64_t *);
 uint32_t bulonkeri_letters(TABLE, uint32_t, uint32_t, uint32_t, uint32_t *, size_t, uint16_t *, size_t, uint32_t *, size_t, uint8_t *, size_t, uint64_t *, uint64_t *);
 uint32_t bulonkeri_text(TABLE, uint32_t, uint32_t, uint32_t, uint32_t, uint32_t *, size_t, uint16_t *, size_t, uint8_t *, size_t, uint64_t *);
+uint32_t bulonkeri_decode(TABLE, const uint32_t *, size_t, const uint8_t *, size_t, uint32_t *, size_t, uint64_t *);
 uint32_t bulonkeri_replay(TABLE, const uint32_t *, size_t, uint32_t *, size_t, uint32_t *, size_t, uint32_t *, size_t, uint64_t *, uint64_t *);
 
 static uint32_t *words; static uint8_t *labels; static size_t words_n, labels_n;
@@ -68,17 +69,34 @@ static void show_replay(const char *name, uint32_t (*list)(void)) {
     free(steps); free(stack); free(entries); free(children);
 }
 
+/* What the last call of letters wrote, decoded. */
+static uint32_t *list; static uint8_t *spelled; static size_t list_n, spelled_n;
+static uint32_t run_decode(void) { return bulonkeri_decode(words, words_n, labels, labels_n, list, list_n, spelled, spelled_n, out, out_n, &written); }
+
 static void show_letters(void) {
     uint32_t number; double ns = best(run_letters, &number);
-    if (number) printf("letters refused %u\n", number);
-    else printf("letters %.0f (%lu labels)\n", ns, (unsigned long)listed);
+    if (number) { printf("letters refused %u\n", number); return; }
+    printf("letters %.0f (%lu labels)\n", ns, (unsigned long)listed);
+    list_n = listed; list = malloc(4 * list_n + 1); memcpy(list, out, 4 * list_n);
+    spelled_n = written; spelled = malloc(spelled_n + 1); memcpy(spelled, bytes, spelled_n);
+    ns = best(run_decode, &number);
+    if (number) printf("decode refused %u\n", number);
+    else printf("decode %.0f (%zu letters)\n", ns, spelled_n);
+    free(list); free(spelled);
 }
+
+/* A plain copy of the text that was written last: what writing costs at the least. */
+static uint8_t *copied;
+static uint32_t run_copy(void) { memcpy(copied, bytes, written); return 0; }
 
 static void show_text(const char *name, uint32_t which) {
     style = which;
     uint32_t number; double ns = best(run_text, &number);
     if (number) printf("%s refused %u\n", name, number);
-    else printf("%s %.0f (%lu bytes, %.0f MB/s)\n", name, ns, (unsigned long)written, 1e3 * written / ns);
+    else {
+        uint32_t none; double plain = best(run_copy, &none);
+        printf("%s %.0f (%lu bytes, %.0f MB/s; a copy %.0f ns)\n", name, ns, (unsigned long)written, 1e3 * written / ns, plain);
+    }
 }
 
 static void show(const char *name, uint32_t (*run)(void)) {
@@ -97,7 +115,7 @@ int main(int count, char **arguments) {
     labels_n = fread(labels, 1, 1 << 21, file);
     work_n = 8 * ((size_t)words[0] + words[2] + words[3] + 1);
     work = calloc(work_n, 4); out = calloc(out_n, 4); out16 = calloc(out_n, 2);
-    sums_n = 75 * ((size_t)words[0] + 1); sums = calloc(sums_n, 2); bytes = calloc(bytes_n, 1);
+    sums_n = 75 * ((size_t)words[0] + 1); sums = calloc(sums_n, 2); bytes = calloc(bytes_n, 1); copied = calloc(bytes_n, 1);
     if (count == 3) { show("check", run_check); show_text("text0+check", 0); return 0; }
     show("parents", run_parents);
     show("dist", run_distances);
