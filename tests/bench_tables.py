@@ -6,7 +6,9 @@ chain   Every entry but the leaves has the one before it as first child and a le
         the walk is as deep as the table is long. The normal list is mostly too long.
 spine   All entries are reached and the normal list has just under a million steps: a spine each of whose entries has one of a row of
         trees of growing size as second child.
-late    The same, with most entries in a chain that is listed first, so that the trees stand late among the entries."""
+late    The same, with most entries in a chain that is listed first, so that the trees stand late among the entries.
+example Document 01's table E, which has 8 statements and 5 entries."""
+import os
 import random
 import struct
 import sys
@@ -114,6 +116,10 @@ def spine(s, n, block, seed, most=1000000):
 
 if __name__ == "__main__":
     kind, s, n = sys.argv[1], int(sys.argv[2]), int(sys.argv[3])
+    if kind == "example":
+        with open(os.path.join(os.path.dirname(os.path.abspath(__file__)), "..", "examples", "e.table"), "rb") as file:
+            sys.stdout.buffer.write(file.read())
+        sys.exit()
     words, labels = {
         "random": lambda: table(s, n, 3, 1),
         "chain": lambda: chain(s, n, 7),
