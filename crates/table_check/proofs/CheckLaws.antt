@@ -11,7 +11,8 @@ use Rattle.laws.specs.Tools.{allOf, allBelow, someBelow}
 use Rattle.defs.specs.Check.{Test, firstOf, statementsRules, labelWrong, labelAgain, referenceOk, hypsRepeat, entriesRules, childrenBelow, bad2, bad3, bad4, bad5, bad6, bad7, _when_}
 use Rattle.defs.specs.Checked.{HeaderOk}
 use Rattle.defs.specs.Table.{stmtSize, entrySize, statements, references, entries, childRefs, statementWords, hypWords, entryWords, childWords}
-use Rattle.table_check.specs.Right.{LabelsRight, HypsRight, ChildrenRight}
+use Rattle.label_check.specs.Right.{LabelsRight}
+use Rattle.table_check.specs.Right.{HypsRight, ChildrenRight}
 use Rattle.table_check.proofs.EntryLaws.{entries-decide}
 use Rattle.table_check.proofs.HeaderLaws.{sections-long}
 use Rattle.table_check.proofs.StatementLaws.{statements-decide}

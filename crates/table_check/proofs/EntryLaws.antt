@@ -13,7 +13,7 @@ use Rattle.defs.specs.Check.{entryRules, entriesRules}
 use Rattle.defs.specs.Table.{childStartIn, childCountIn, childrenIn}
 use Rattle.table.proofs.Lemmas.{between}
 use Rattle.table_check.specs.Right.{ChildrenBefore, EntryRight, EntriesRight}
-use Rattle.table_check.proofs.Decides.{Decides, decides}
+use Rattle.laws.specs.Decides.{Decides, decides}
 
 module _ (ss es : List ℕ) (s c e : ℕ) where
   pub entry-decides : Decides (allOf (entryRules ss es s c e)) (EntryRight ss es s c e)

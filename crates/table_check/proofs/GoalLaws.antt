@@ -13,7 +13,7 @@ use Rattle.defs.specs.Check.{goalRules}
 use Rattle.defs.specs.Checked.{HeaderOk}
 use Rattle.defs.specs.Table.{statements, entries, theorem, qed, kind, kindIn, statementWords}
 use Rattle.table.specs.Records.{StatementIn}
-use Rattle.table_check.proofs.Decides.{Decides, decides}
+use Rattle.laws.specs.Decides.{Decides, decides}
 use Rattle.table_check.proofs.HeaderLaws.{sections-long}
 
 pub record GoalRight (w : List ℕ) : Type 0 where

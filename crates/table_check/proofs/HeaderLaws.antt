@@ -10,7 +10,7 @@ use Rattle.laws.specs.Lists.{T-of, eqb-yes, not-no}
 use Rattle.laws.specs.Tools.{allOf}
 use Rattle.defs.specs.Check.{headerRules, bad1}
 use Rattle.defs.specs.Checked.{HeaderOk, header, SectionsOk, sections}
-use Rattle.table_check.proofs.Decides.{Decides, decides}
+use Rattle.laws.specs.Decides.{Decides, decides}
 
 pub header-decides : (w : List ℕ) → Decides (allOf (headerRules w)) (HeaderOk w)
 unfolding bad1 headerRules

@@ -1,9 +1,6 @@
 mod CheckLaws
-mod Decides
-mod Places
 mod EntryLaws
 mod GoalLaws
 mod HeaderLaws
 mod HypothesisLaws
-mod LabelLaws
 mod StatementLaws

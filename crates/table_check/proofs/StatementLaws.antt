@@ -14,7 +14,7 @@ use Rattle.laws.specs.Tools.{allOf, sumBelow}
 use Rattle.defs.specs.Check.{statementRules, statementsRules}
 use Rattle.defs.specs.Table.{kindIn, labelLengthIn, hypCountIn}
 use Rattle.table_check.specs.Right.{TakenBefore, StatementRight, StatementsRight}
-use Rattle.table_check.proofs.Decides.{Decides, decides}
+use Rattle.laws.specs.Decides.{Decides, decides}
 
 module _ (ss : List ℕ) (h bytes k : ℕ) where
   kept : T (allOf (statementRules ss h bytes k)) → StatementRight ss h bytes k

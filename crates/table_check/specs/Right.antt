@@ -32,13 +32,6 @@ pub record StatementsRight (ss : List ℕ) (s h bytes : ℕ) : Type 0 where
   pub labels-fill : sumBelow (labelLengthIn ss) s ≡ bytes
   pub hyps-fill : sumBelow (hypCountIn ss) s ≡ h
 
--- the labels of s statements follow each other and fill the label bytes
-pub record LabelsRight (ss b : List ℕ) (s : ℕ) : Type 0 where
-  pub records : length ss ≡ stmtSize * s
-  pub start : (k : ℕ) → k < s → labelStartIn ss k ≡ sumBelow (labelLengthIn ss) k
-  pub inside : (k : ℕ) → k < s → labelStartIn ss k + labelLengthIn ss k ≤ length b
-  pub fill : sumBelow (labelLengthIn ss) s ≡ length b
-
 -- the lists of s statements lie in the hypothesis references
 pub record HypsRight (ss hs : List ℕ) (s : ℕ) : Type 0 where
   pub records : length ss ≡ stmtSize * s

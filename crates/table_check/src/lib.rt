@@ -1,9 +1,8 @@
-// The check of a table: refusals 1 to 7 of document 01, a file for each subject.
+// The check of a table: refusals 1 to 7 of document 01, a file for each subject. Test 3 is crate label_check.
 mod entries;
 mod goal;
 mod header;
 mod hypotheses;
-mod labels;
 mod statements;
 
 use entries::children_wrong;
@@ -11,7 +10,7 @@ use entries::entries_wrong;
 use goal::goal_wrong;
 use header::header_wrong;
 use hypotheses::hypotheses_wrong;
-use labels::labels_wrong;
+use label_check::labels_wrong;
 use statements::statements_wrong;
 use table::header::read_header;
 use table::sections::child_section;

@@ -8,7 +8,7 @@ use borrow.Author.Count.{below-none, below-more}
 use borrow.Author.Tests.{lt-ltb, le-ltb}
 use lib.Dec.{ltb}
 use lib.ListN.{length, getD}
-use Rattle.table_check.proofs.Places.{all-decides, one-fails}
+use Rattle.laws.specs.Places.{all-decides, one-fails}
 use Rattle.table_check.proofs.entries.all_below.Statement.{statement}
 use Rattle.table_check.proofs.entries.all_below.Tie as tie
 

@@ -7,7 +7,7 @@ use native.Mathlib.Omega.{arith}
 use borrow.Author.Count.{below-none, below-more}
 use borrow.Author.Tests.{not-true, not-false}
 use Rattle.table_check.specs.Right.{ChildrenBefore, EntryRight}
-use Rattle.table_check.proofs.Decides.{last-differs}
+use Rattle.laws.specs.Decides.{last-differs}
 use Rattle.table_check.proofs.EntryLaws.{entry-decides, entries-decide, children-none, children-next, entry-wrong}
 use Rattle.table_check.proofs.entries.entries_wrong.Statement.{statement}
 use Rattle.table_check.proofs.entries.entries_wrong.Tie as tie

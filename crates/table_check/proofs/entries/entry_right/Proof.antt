@@ -5,7 +5,7 @@ use mathlib.Core.Path.{sym, ap}
 use native.Mathlib.Omega.{arith}
 use borrow.Author.Needs.{needs}
 use Rattle.defs.specs.Table.{hypCountIn}
-use Rattle.table_check.proofs.Decides.{last-most}
+use Rattle.laws.specs.Decides.{last-most}
 use Rattle.table_check.proofs.EntryLaws.{entry-decides}
 use Rattle.table_check.proofs.entries.entry_right.Statement.{statement}
 use Rattle.table_check.proofs.entries.entry_right.Tie as tie

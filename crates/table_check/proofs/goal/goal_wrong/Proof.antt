@@ -5,7 +5,7 @@ use mathlib.Core.Path.{sym, ap}
 use native.Mathlib.Omega.{arith}
 use borrow.Author.Needs.{needs}
 use Rattle.defs.specs.Check.{bad7}
-use Rattle.table_check.proofs.Decides.{last-reaches}
+use Rattle.laws.specs.Decides.{last-reaches}
 use Rattle.table_check.proofs.GoalLaws.{goal-decides, theorem-in, theorem-kind}
 use Rattle.table_check.proofs.goal.goal_wrong.Statement.{statement}
 use Rattle.table_check.proofs.goal.goal_wrong.Tie as tie

@@ -8,7 +8,7 @@ use borrow.Author.Needs.{needs}
 use lib.ListN.{length}
 use Rattle.defs.specs.Check.{bad1}
 use Rattle.defs.specs.Table.{headerSize, stmtSize, entrySize}
-use Rattle.table_check.proofs.Decides.{last-differs}
+use Rattle.laws.specs.Decides.{last-differs}
 use Rattle.table_check.proofs.HeaderLaws.{header-decides}
 use Rattle.table_check.proofs.header.header_wrong.Statement.{statement}
 use Rattle.table_check.proofs.header.header_wrong.Tie as tie

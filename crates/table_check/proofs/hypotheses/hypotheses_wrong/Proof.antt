@@ -3,7 +3,7 @@
 use mathlib.Core.Bool.{not}
 use mathlib.Core.Path.{sym, ap, _∙_}
 use borrow.Author.Needs.{needs}
-use Rattle.table_check.proofs.Decides.{first-holds, second-decides}
+use Rattle.laws.specs.Decides.{first-holds, second-decides}
 use Rattle.table_check.proofs.hypotheses.hypotheses_wrong.Statement.{statement}
 use Rattle.table_check.proofs.hypotheses.hypotheses_wrong.Tie as tie
 

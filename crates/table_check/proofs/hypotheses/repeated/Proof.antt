@@ -6,7 +6,7 @@ use mathlib.Core.Path.{_≡_, refl, sym, _∙_}
 use native.Mathlib.Omega.{arith}
 use borrow.Author.Count.{below-none, below-more}
 use lib.ListN.{length, getD}
-use Rattle.table_check.proofs.Places.{repeats-at, repeats-nowhere}
+use Rattle.laws.specs.Places.{repeats-at, repeats-nowhere}
 use Rattle.table_check.proofs.hypotheses.repeated.Statement.{statement}
 use Rattle.table_check.proofs.hypotheses.repeated.Tie as tie
 

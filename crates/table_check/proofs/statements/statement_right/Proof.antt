@@ -5,7 +5,7 @@ use mathlib.Core.Logic.{inl, inr, ⊎-elim}
 use mathlib.Core.Path.{sym}
 use native.Mathlib.Omega.{arith}
 use borrow.Author.Needs.{needs}
-use Rattle.table_check.proofs.Decides.{last-equal, last-most}
+use Rattle.laws.specs.Decides.{last-equal, last-most}
 use Rattle.table_check.proofs.StatementLaws.{statement-decides}
 use Rattle.table_check.proofs.statements.statement_right.Statement.{statement}
 use Rattle.table_check.proofs.statements.statement_right.Tie as tie

@@ -7,7 +7,7 @@ use native.Mathlib.Omega.{arith}
 use borrow.Author.Count.{below-none, below-more}
 use borrow.Author.Tests.{not-true, not-false}
 use Rattle.table_check.specs.Right.{TakenBefore, StatementRight}
-use Rattle.table_check.proofs.Decides.{last-differs}
+use Rattle.laws.specs.Decides.{last-differs}
 use Rattle.table_check.proofs.StatementLaws.{statement-decides, statements-decide, taken-none, taken-next, line-wrong}
 use Rattle.table_check.proofs.statements.statements_wrong.Statement.{statement}
 use Rattle.table_check.proofs.statements.statements_wrong.Tie as tie

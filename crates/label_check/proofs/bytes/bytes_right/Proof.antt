@@ -9,9 +9,9 @@ use borrow.Author.Needs.{needs}
 use borrow.Author.Tests.{not-true, not-false}
 use lib.ListN.{length, getD}
 use Rattle.defs.specs.Check.{labelByte}
-use Rattle.table_check.proofs.Places.{all-decides, one-fails}
-use Rattle.table_check.proofs.labels.bytes_right.Statement.{statement}
-use Rattle.table_check.proofs.labels.bytes_right.Tie as tie
+use Rattle.laws.specs.Places.{all-decides, one-fails}
+use Rattle.label_check.proofs.bytes.bytes_right.Statement.{statement}
+use Rattle.label_check.proofs.bytes.bytes_right.Tie as tie
 
 abbrev Inv-loop : tie.InvT-loop
 Inv-loop labels i₀ i = (i ≤ length labels) × ((k : ℕ) → k < i → labelByte (getD labels k 0) ≡ true)

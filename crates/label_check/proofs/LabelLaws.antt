@@ -14,8 +14,8 @@ use Rattle.laws.specs.Tools.{part, same, all, someBelow, sumBelow}
 use Rattle.defs.specs.Check.{labelByte, labelWrong}
 use Rattle.defs.specs.Table.{labelStartIn, labelLengthIn, labelIn}
 use Rattle.table.proofs.Lemmas.{between}
-use Rattle.table_check.specs.Right.{LabelsRight}
-use Rattle.table_check.proofs.Places.{same-decides}
+use Rattle.label_check.specs.Right.{LabelsRight}
+use Rattle.laws.specs.Places.{same-decides}
 
 -- ---- a byte
 

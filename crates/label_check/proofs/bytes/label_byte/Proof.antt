@@ -2,9 +2,9 @@
 -- The match is a row of comparisons, so each answer is a matter of numbers. Assumes nothing.
 use mathlib.Core.Path.{sym}
 use native.Mathlib.Omega.{arith}
-use Rattle.table_check.proofs.LabelLaws.{byte-no, byte-yes}
-use Rattle.table_check.proofs.labels.label_byte.Statement.{statement}
-use Rattle.table_check.proofs.labels.label_byte.Tie as tie
+use Rattle.label_check.proofs.LabelLaws.{byte-no, byte-yes}
+use Rattle.label_check.proofs.bytes.label_byte.Statement.{statement}
+use Rattle.label_check.proofs.bytes.label_byte.Tie as tie
 
 returns : tie.Need-returns
 returns c = sym (byte-no _ (omega arith))

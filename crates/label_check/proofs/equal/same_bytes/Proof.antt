@@ -7,9 +7,9 @@ use native.Mathlib.Omega.{arith}
 use borrow.Author.Count.{below-none, below-more}
 use lib.ListN.{length, getD}
 use lib.Seq.{ext-getD}
-use Rattle.table_check.proofs.Places.{same-decides}
-use Rattle.table_check.proofs.labels.same_bytes.Statement.{statement}
-use Rattle.table_check.proofs.labels.same_bytes.Tie as tie
+use Rattle.laws.specs.Places.{same-decides}
+use Rattle.label_check.proofs.equal.same_bytes.Statement.{statement}
+use Rattle.label_check.proofs.equal.same_bytes.Tie as tie
 
 abbrev Inv-loop : tie.InvT-loop
 Inv-loop one other i₀ i = (i ≤ length one) × ((k : ℕ) → k < i → getD one k 0 ≡ getD other k 0)

@@ -5,9 +5,9 @@ use mathlib.Core.List.{List}
 use mathlib.Core.Path.{sym, ap, _∙_}
 use borrow.Author.Needs.{needs}
 use Rattle.laws.specs.Tools.{same}
-use Rattle.table_check.proofs.LabelLaws.{other-length, label-part}
-use Rattle.table_check.proofs.labels.has_label.Statement.{statement}
-use Rattle.table_check.proofs.labels.has_label.Tie as tie
+use Rattle.label_check.proofs.LabelLaws.{other-length, label-part}
+use Rattle.label_check.proofs.equal.has_label.Statement.{statement}
+use Rattle.label_check.proofs.equal.has_label.Tie as tie
 
 label-length-requires : tie.Need-label-length-requires
 label-length-requires c κs = search needs

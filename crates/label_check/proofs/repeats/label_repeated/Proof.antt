@@ -9,9 +9,9 @@ use Rattle.laws.specs.Below.{someBelow-none, someBelow-holds}
 use Rattle.laws.specs.Tools.{same}
 use Rattle.defs.specs.Check.{labelAgain}
 use Rattle.defs.specs.Table.{labelIn}
-use Rattle.table_check.proofs.LabelLaws.{label-part}
-use Rattle.table_check.proofs.labels.label_repeated.Statement.{statement}
-use Rattle.table_check.proofs.labels.label_repeated.Tie as tie
+use Rattle.label_check.proofs.LabelLaws.{label-part}
+use Rattle.label_check.proofs.repeats.label_repeated.Statement.{statement}
+use Rattle.label_check.proofs.repeats.label_repeated.Tie as tie
 
 abbrev Inv-loop : tie.InvT-loop
 Inv-loop statements count labels found₀ k start end label j₀ found j =

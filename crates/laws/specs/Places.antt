@@ -8,9 +8,9 @@ use mir.Facts.{and-yes, yes-and}
 use native.Mathlib.Omega.{arith}
 use lib.Dec.{T, eqb}
 use lib.ListN.{length, getD}
 use Rattle.laws.specs.Lists.{T-of, of-T, clash, or-right, eqb-yes, eqb-no, same-refl, same-is}
 use Rattle.laws.specs.Tools.{all, same, member, repeats}
-use Rattle.table_check.proofs.Decides.{Decides, decides}
+use Rattle.laws.specs.Decides.{Decides, decides}
 
 -- a test of all members, and of the member at each place
 module _ (test : ℕ → Bool) where

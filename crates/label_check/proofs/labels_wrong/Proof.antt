@@ -3,10 +3,10 @@
 use mathlib.Core.Bool.{not}
 use mathlib.Core.Path.{sym, ap, _∙_}
 use borrow.Author.Needs.{needs}
-use Rattle.table_check.proofs.Decides.{first-holds, second-decides}
-use Rattle.table_check.proofs.LabelLaws.{bytes-of-labels}
-use Rattle.table_check.proofs.labels.labels_wrong.Statement.{statement}
-use Rattle.table_check.proofs.labels.labels_wrong.Tie as tie
+use Rattle.laws.specs.Decides.{first-holds, second-decides}
+use Rattle.label_check.proofs.LabelLaws.{bytes-of-labels}
+use Rattle.label_check.proofs.labels_wrong.Statement.{statement}
+use Rattle.label_check.proofs.labels_wrong.Tie as tie
 
 bytes-right-requires : tie.Need-bytes-right-requires
 bytes-right-requires c κs = search needs
