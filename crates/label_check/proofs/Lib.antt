@@ -1,1 +1,2 @@
+mod BucketLaws
 mod LabelLaws

@@ -1,1 +1,2 @@
 pub mod Right
+pub mod Buckets
