@@ -1,6 +1,6 @@
 -- The mark of a bucket holds the print of each label in it, or says that there are several. A label whose print the mark of its bucket
 -- does not hold is therefore unlike every label before it. Assumes nothing.
-use Prim.Native.Nat.{ℕ, _+_, _*_, _/_, _%_, _≤_, _<_}
+use Prim.Native.Nat.{ℕ, _+_, _*_, _%_, _≤_, _<_}
 use mathlib.Core.Bool.{false}
 use mathlib.Core.List.{List}
 use mathlib.Core.Logic.{_⊎_, inl, inr, ⊎-elim}
@@ -15,7 +15,7 @@ use lib.Seq.{getD-set-same, getD-set-other}
 use Rattle.laws.specs.Lists.{boole, eqb-yes, eqb-no}
 use Rattle.laws.specs.Places.{same-decides}
 use Rattle.laws.specs.Tools.{same}
-use Rattle.label_check.specs.Buckets.{buckets, hashTo, hashOf, fallOf, mixed, markAfter, firstCompared}
+use Rattle.label_check.specs.Buckets.{buckets, hashTo, fallOf, mixed, markAfter, firstCompared}
 use Rattle.label_check.specs.declared.buckets.Fall.{Fall}
 
 -- ---- the hash
@@ -27,10 +27,6 @@ hash-none label = refl
 pub hash-next : (label : List ℕ) (k hash : ℕ) → hash ≡ hashTo label k → (hash * 131 + getD label k 0) % 4294967296 ≡ hashTo label (k + 1)
 unfolding hashTo
 hash-next label k hash e = rw (add-one k, e)
-
-pub falls-at : (label : List ℕ) (hash : ℕ) → hash ≡ hashOf label → record { bucket = hash % buckets; print = hash / buckets % 128 + 1 } ≡ fallOf label
-unfolding fallOf
-falls-at label hash e = rw e
 
 pub bucket-below : (label : List ℕ) → fallOf label .bucket < buckets
 unfolding fallOf

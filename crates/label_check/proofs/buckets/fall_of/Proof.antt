@@ -1,7 +1,7 @@
 -- `fall_of` is `fallOf`: bucket and print are parts of the hash.
 -- Assumes nothing.
 use borrow.Author.Needs.{needs}
-use Rattle.label_check.proofs.BucketLaws.{falls-at}
+use Rattle.label_check.specs.Buckets.{fallOf}
 use Rattle.label_check.proofs.buckets.fall_of.Statement.{statement}
 use Rattle.label_check.proofs.buckets.fall_of.Tie as tie
 
@@ -15,7 +15,8 @@ cast-t7 : tie.Need-cast-t7
 cast-t7 c = search needs
 
 returns : tie.Need-returns
-returns c = falls-at _ _ (c .hash-of .ensures)
+unfolding fallOf
+returns c = rw (c .hash-of .ensures)
 
 pub fall-of-spec : {M : Type 1} → statement M
 fall-of-spec = tie.close (tie.spec hash-of-requires add-t6 cast-t7 returns)

@@ -1,9 +1,9 @@
 -- `hash_of` is `hashOf`. Invariant: the hash is that of the bytes passed, and has 32 bits, so that no product leaves a word.
 -- Assumes nothing.
-use Prim.Native.Nat.{ℕ, _+_, _*_, _-_, _%_, _≤_, _<_}
-use mathlib.Core.Path.{_≡_, ap, _∙_}
+use Prim.Native.Nat.{_-_, _≤_, _<_}
+use mathlib.Core.Path.{_≡_}
 use native.Mathlib.Omega.{arith}
-use lib.ListN.{length, getD}
+use lib.ListN.{length}
 use Rattle.label_check.specs.Buckets.{hashTo}
 use Rattle.label_check.proofs.BucketLaws.{hash-none, hash-next}
 use Rattle.label_check.proofs.buckets.hash_of.Statement.{statement}
