@@ -103,7 +103,7 @@ fallen-none label = record { all-buckets = length-replicate {A = ℕ} buckets 0;
 
 module _ (label : ℕ → List ℕ) (marks : List ℕ) (k : ℕ) (fallen : Fallen label marks k) (own : Fall) (is : own ≡ fallOf (label k)) where
   -- a label before k that is equal fell alike, so that the mark holds the print of label k
-  pub unlike : ¬ Holds (getD marks (own .bucket) 0) (own .print) → (i : ℕ) → i < k → same (label i) (label k) ≡ false
+  unlike : ¬ Holds (getD marks (own .bucket) 0) (own .print) → (i : ℕ) → i < k → same (label i) (label k) ≡ false
   unlike h i l =
       same-decides (label i) (label k) .no
       (λ e. let f : fallOf (label i) ≡ own = ap fallOf e ∙ sym is in h (rw f at (fallen .held i l)))
