@@ -38,16 +38,16 @@ pub record Stored (w : List ℕ) (explicit : Bool) (start : ℕ) (h : Held) : Ty
   pub long : h .end - start ≡ length (stepListWords w true explicit)
   pub front : part start (h .end - start) (h .words) ≡ stepListWords w true explicit
 
-module _ (w b : List ℕ) (ok : tableRefusal w b ≡ 0) (explicit : Bool) (es cs : List ℕ) (q : ℕ) (entries-are : es ≡ entryWords w) (children-are : cs ≡ childWords w) (is-qed : q ≡ qed w) where
+module _ (w b : List ℕ) (ok : tableRefusal w b ≡ 0) (explicit : Bool) (q : ℕ) (is-qed : q ≡ qed w) where
   -- the sections of the table, with the words asked for
-  pub may-pack : (room : ℕ) → need32 w ≤ room → Packable es cs explicit q room
+  pub may-pack : (room : ℕ) → need32 w ≤ room → Packable (entryWords w) (childWords w) explicit q room
   unfolding need32
-  may-pack room enough = rw (entries-are, children-are, is-qed) (packable w b ok explicit room (omega arith))
+  may-pack room enough = rw is-qed (packable w b ok explicit room (omega arith))
 
-  pub stored : (start : ℕ) → start ≡ entries w + 1 → (h : Held) → Packed es cs explicit q h → Stored w explicit start h
+  pub stored : (start : ℕ) → start ≡ entries w + 1 → (h : Held) → Packed (entryWords w) (childWords w) explicit q h → Stored w explicit start h
   unfolding stepListWords need32
   stored start is h packed =
-      let p : Packed (entryWords w) (childWords w) explicit (qed w) h = rw (entries-are, children-are, is-qed) at packed in
+      let p : Packed (entryWords w) (childWords w) explicit (qed w) h = rw is-qed at packed in
       let n = entries-size w b ok in
       let list = packed-of w b ok explicit in
       let long : length (flat (packedOf w explicit)) ≡ h .end - start = omega (arith, rw (list, n) at (p .end-is)) in

@@ -9,6 +9,7 @@ use table::numbers::wide;
 use table::sections::child_section;
 use table::sections::entry_section;
 use table_check::check;
+use walk::hyps::hyp_words;
 use walk::normal::Taken;
 use walk::normal::begin;
 use walk::normal::next;
@@ -76,7 +77,8 @@ fn write_normal(
         else {
             return;
         };
-        put_step(out, at, 0, 0, statement.0, hyp);
+        let words = hyp_words(hyp);
+        put_step(out, at, 0, 0, statement.0, words.parent, words.index);
         at += STEP_WORDS;
         depth = below;
     }

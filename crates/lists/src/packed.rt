@@ -5,8 +5,6 @@ use slices::copy::copy_to;
 use table::Written;
 use table::header::read_header;
 use table::numbers::wide;
-use table::sections::child_section;
-use table::sections::entry_section;
 use table_check::check;
 use walk::packed::pack;
 use walk::room::working_words;
@@ -34,9 +32,7 @@ pub fn packed_list(
         return refused(14);
     }
     let header = read_header(words);
-    let entries = entry_section(words);
-    let children = child_section(words);
-    let end = pack(entries, children, work, explicit, header.qed);
+    let end = pack(words, work, explicit, header.qed);
     let start = wide(header.entries) + 1;
     let length = end - start;
     if out.len() < length {

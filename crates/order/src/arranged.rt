@@ -7,8 +7,6 @@ use layout::Layout;
 use listing::list::list_statements;
 use table::header::read_header;
 use table::numbers::wide;
-use table::sections::child_section;
-use table::sections::entry_section;
 use table::sections::statement_section;
 use theorem::hypotheses::mixed;
 use theorem::hypotheses::theorem_list;
@@ -53,9 +51,7 @@ fn list_packed(words: &[u32], work: &mut [u32]) -> Listed
     ensures { λ r. ⌜ ListedIn (now (words .entry)) r (now (work .exit)) ⌝ }
 {
     let header = read_header(words);
-    let entries = entry_section(words);
-    let children = child_section(words);
-    let end = pack(entries, children, work, false, header.qed);
+    let end = pack(words, work, false, header.qed);
     let start = wide(header.entries) + 1;
     let steps = (end - start) / STEP_WORDS;
     let statements = statement_section(words);

@@ -25,7 +25,6 @@ use Rattle.names.specs.OfTables.{statements-in, section-ok}
 use Rattle.walk.specs.Packed.{held, Packable, Packed}
 use Rattle.walk.specs.Tables.{entries-size, packable, packed-of}
 use Rattle.steptexts.specs.Texts.{PackedReady}
-use Rattle.steptexts.proofs.Lent.{Entered}
 
 -- what stands before a part that came back is as it was, and what stands in it is what came back
 before-part : (xs ys : List ℕ) (at k i : ℕ) → at ≤ length xs → i < at → word (putMid at k xs ys) i ≡ word xs i
@@ -44,15 +43,15 @@ same-part xs ys start len h e same =
     ext-getD 0 (part start len ys) (part start len xs) (l ∙ sym (part-length start len xs h))
     (λ i m. (let k : i < len = rw l at m in part-at start len ys i 0 k ∙ same (start + i) (omega arith) ∙ sym (part-at start len xs i 0 k)))
 
-module _ (w b : List ℕ) (ok : tableRefusal w b ≡ 0) {explicit : Bool} {es cs : List ℕ} {q : ℕ} (e : Entered w es cs q) where
+module _ (w b : List ℕ) (ok : tableRefusal w b ≡ 0) {explicit : Bool} {q : ℕ} (is-qed : q ≡ qed w) where
   -- the words asked for are enough for the walk
-  pub may-pack : {room : ℕ} → need32 w ≤ room → Packable es cs explicit q room
+  pub may-pack : {room : ℕ} → need32 w ≤ room → Packable (entryWords w) (childWords w) explicit q room
   unfolding need32
-  may-pack {room} enough = rw (e .entries-are, e .children-are, e .qed-is) (packable w b ok explicit room (omega arith))
+  may-pack {room} enough = rw is-qed (packable w b ok explicit room (omega arith))
 
-  module _ {ws : List ℕ} {end : ℕ} (p : Packed es cs explicit q (held ws end)) (enough : need32 w ≤ length ws) where
+  module _ {ws : List ℕ} {end : ℕ} (p : Packed (entryWords w) (childWords w) explicit q (held ws end)) (enough : need32 w ≤ length ws) where
     packed : Packed (entryWords w) (childWords w) explicit (qed w) (held ws end)
-    packed = rw (e .entries-are, e .children-are, e .qed-is) at p
+    packed = rw is-qed at p
 
     long : length (flat (packedOf w explicit)) ≡ stepSize * length (packedOf w explicit)
     long = flat-length (packedOf w explicit)

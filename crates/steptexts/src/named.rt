@@ -2,8 +2,6 @@
 use names::marks::mark_names;
 use table::header::read_header;
 use table::numbers::wide;
-use table::sections::child_section;
-use table::sections::entry_section;
 use table::sections::statement_section;
 use walk::packed::pack;
 use walk::steps::STEP_WORDS;
@@ -28,9 +26,7 @@ pub fn pack_named(words: &[u32], labels: &[u8], explicit: bool, work: &mut [u32]
     ensures { λ r. ⌜ PackedReady (now (words .entry)) (now (labels .entry)) explicit (r .steps) (r .many) (r .names) (now (work .exit)) ⌝ }
 {
     let header = read_header(words);
-    let entries = entry_section(words);
-    let children = child_section(words);
-    let end = pack(entries, children, work, explicit, header.qed);
+    let end = pack(words, work, explicit, header.qed);
     let statements = statement_section(words);
     let count = wide(header.entries);
     mark_names(statements, labels, count, &mut work[end..]);

@@ -13,7 +13,7 @@ use lib.Seq.{getD-set-same, getD-set-other, drop-set-lt}
 use borrow.Author.Tests.{ne-eqb, lt-ltb}
 use Rattle.laws.specs.Lists.{boole, clash}
 use Rattle.laws.specs.Tools.{pick, part}
-use Rattle.defs.specs.Table.{word, maxWord, maxChildRefs, childStartIn, childCountIn, entryStmtIn}
+use Rattle.defs.specs.Table.{word, maxChildRefs, childStartIn, childCountIn, entryStmtIn}
 use Rattle.defs.specs.Graph.{Graph, graphIn}
 use Rattle.defs.specs.Counts.{parents}
 use Rattle.defs.specs.Steps.{Step, stepSize, stepWords, flat, Walk, markOf, parentWord, indexWord, getsMark, refer, finish, visit, packedWith, packedSteps}
@@ -22,11 +22,9 @@ use Rattle.defs.specs.Sections.{EntriesOk, child-at}
 use Rattle.lengths.specs.Bound.{Grown, longer, refer-one, visit-grows, afterChildren, children-none, children-next, visit-met, visit-new, child-within, children-within, children-room, child-depth}
 use Rattle.walk.specs.Entries.{size, Entries, kids-length, kid-below, entries-fall}
 use Rattle.walk.specs.Marks.{countsBelow, marked}
-use Rattle.walk.specs.Hyps.{parentOf, indexOf}
 use Rattle.walk.specs.Steps.{step, withStep}
 use Rattle.walk.specs.Packed.{Held, held, entryAt, stepsFrom, single, finishes, Room, Stands, Fits, visitFrom, Visitable, Ready, Listed, Visited, walkStart, Packing, Begun, Packable, Packed}
 use Rattle.walk.proofs.StepLaws.{before-step, step-more}
-use Rattle.walk.specs.declared.hyps.ParentHyp.the-variants.{Root}
 
 -- ---- the own step of an entry
 
@@ -159,10 +157,6 @@ stands-finish g counts n h t st room e l gets is parent index =
 
 -- ---- a visit, part by part
 
--- room for a step is room for one that carries the same parent word
-pub room-for : (e parent p : ℕ) (h : Held) → p ≡ parent → Room e parent h → Room e p h
-room-for e parent p h is room = rw is room
-
 -- after none they hold it as it was
 pub no-children : (es cs : List ℕ) (explicit : Bool) (e : ℕ) (h : Held) → Listed es cs explicit e 0 h h
 unfolding Listed
@@ -172,11 +166,6 @@ no-children es cs explicit e h counts from st = rw (children-none (graphIn es cs
 pub record Child (es cs : List ℕ) (e k c : ℕ) : Type 0 where
   pub more : k < childCountIn es e
   pub child-is : c ≡ word cs (childStartIn es e + k)
-
--- a parent word is at most one more than the statement
-parent-most : (explicit : Bool) (k : ℕ) → parentWord explicit k ≤ k + 1
-parent-most true k = omega arith
-parent-most false k = omega arith
 
 -- a walk that goes on to one that has room has room
 within : (es cs : List ℕ) (s t : Walk) → Grown s t → Fits es cs t → Fits es cs s
@@ -205,21 +194,20 @@ module _ (es cs : List ℕ) (explicit : Bool) (e parent index : ℕ) (h : Held) 
       ap₂ (λ (a : ℕ) (b : Bool). ltb 0 a && b) (sym (kids-length es cs n ok e (ready .inside))) (sym (st .shared e (ready .inside)))
 
   -- the words have room for the step that comes after the walk t
-  room-after : (h₁ : Held) (t : Walk) → length (h₁ .words) ≡ length (h .words) → Stands g (ready .counts) n h₁ t → length (t .out) ≤ length cs → t .given ≤ n → Room e parent h₁
+  room-after : (h₁ : Held) (t : Walk) → length (h₁ .words) ≡ length (h .words) → Stands g (ready .counts) n h₁ t → length (t .out) ≤ length cs → t .given ≤ n → Room e h₁
   room-after h₁ t same st l m =
       let long = ready .long in
       record {
         entry-in = omega (arith, ready .inside);
         step-in = omega (arith, st .end-is);
         mark-fits = omega (arith, st .given-is, few);
-        hyp-fits = ready .hyp-fits;
       }
 
   module _ (met : marked < word (h .words) (entryAt e)) where
     marked-before : (counts : List ℕ) (from : Walk) → Stands g counts n h from → markOf from e ≢ 0
     marked-before counts from st z = omega (arith, st .marks e (ready .inside))
 
-    room-met : Room e parent h
+    room-met : Room e h
     room-met =
         let from = ready .from in
         let t = visitFrom es cs (ready .counts) explicit e parent index from in
@@ -260,7 +248,6 @@ module _ (es cs : List ℕ) (explicit : Bool) (e parent index : ℕ) (h : Held) 
             record {
               entries = ready .entries;
               inside = omega (arith, child-is, kid-below es cs n ok e k (ready .inside) more, ready .inside);
-              hyp-fits = omega (arith, parent-most explicit (entryStmtIn es e), ready .entries .statements-few e (ready .inside));
               long = rw same (ready .long);
               counts = ready .counts;
               from = s;
@@ -280,7 +267,7 @@ module _ (es cs : List ℕ) (explicit : Bool) (e parent index : ℕ) (h : Held) 
         all-kids : k ≡ length (g .kids e)
         all-kids = omega (arith, kids-length es cs n ok e (ready .inside))
 
-        pub room-last : Room e parent h₁
+        pub room-last : Room e h₁
         unfolding Listed
         room-last =
             let from = ready .from in
@@ -311,7 +298,7 @@ module _ (es cs : List ℕ) (explicit : Bool) (e parent index : ℕ) (h : Held) 
           | no z ↦ absurd (omega (arith, ready .stands .apart e (ready .inside) (omega arith)))
         ]
 
-    pub room-single : Room e parent h
+    pub room-single : Room e h
     room-single =
         elim (ℕ-discrete (word (h .words) (entryAt e) - marked) 0) [
           | yes z ↦ (let new : word (h .words) (entryAt e) ≤ marked = omega arith in room-last new 0 h refl (no-children es cs explicit e h) (sym (childless new)))
@@ -337,7 +324,6 @@ module _ (es cs : List ℕ) (explicit : Bool) (q room : ℕ) (p : Packable es cs
       record {
         entries = p .packing .entries;
         inside = p .inside;
-        hyp-fits = omega arith;
         long = rw same (p .long);
         counts = parents (graphIn es cs) (size es);
         from = walkStart (size es);
@@ -360,20 +346,16 @@ module _ (es cs : List ℕ) (explicit : Bool) (q room : ℕ) (p : Packable es cs
       record { end-is = omega (arith, st .end-is, long); steps = rw long (st .steps) }
 
   module _ (none : childCountIn es q ≡ 0) where
-    pub root-alone : Room q (parentOf Root) h
-    unfolding parentOf
+    pub root-alone : Room q h
     root-alone = room-single es cs explicit q 0 0 h root-visitable (omega arith)
 
-    pub root-single : (h′ : Held) (statement : ℕ) → statement ≡ entryStmtIn es q → h′ ≡ single q statement (parentOf Root) (indexOf Root) h → Packed es cs explicit q h′
-    unfolding parentOf indexOf
+    pub root-single : (h′ : Held) (statement : ℕ) → statement ≡ entryStmtIn es q → h′ ≡ single q statement 0 0 h → Packed es cs explicit q h′
     root-single h′ statement is end = packed h′ (visited-single es cs explicit q 0 0 h root-visitable (omega arith) h′ statement 0 0 is refl refl end)
 
   module _ (h₁ : Held) (kept : length (h₁ .words) ≡ length (h .words)) (listed : Listed es cs explicit q (childCountIn es q) h h₁) where
-    pub root-room : Room q (parentOf Root) h₁
-    unfolding parentOf
+    pub root-room : Room q h₁
     root-room = room-last es cs explicit q 0 0 h root-visitable root-new _ h₁ kept listed refl
 
     pub root-packed : 0 < childCountIn es q → (h′ : Held) (statement : ℕ) → statement ≡ entryStmtIn es q
-        → h′ ≡ finishes (ltb 1 (word (h₁ .words) (entryAt q))) q statement (parentOf Root) (indexOf Root) h₁ → Packed es cs explicit q h′
-    unfolding parentOf indexOf
+        → h′ ≡ finishes (ltb 1 (word (h₁ .words) (entryAt q))) q statement 0 0 h₁ → Packed es cs explicit q h′
     root-packed some h′ statement is end = packed h′ (visited-new es cs explicit q 0 0 h root-visitable root-new _ h₁ kept listed refl some h′ statement 0 0 is refl refl end)

@@ -1,6 +1,7 @@
 -- A step put into a list of words: the words of its parent hypothesis, and what stands in the list afterwards.
 -- Assumes nothing.
 use mathlib.Core.Path.{_≡_, refl, sym, ap, _∙_}
+use mathlib.Core.Bool.{Bool, true, false}
 use mathlib.Core.List.{List, [], _∷_, _++_, append-assoc}
 use Prim.Native.Nat.{ℕ, suc, _+_, _≤_, _<_}
 use native.Mathlib.Omega.{arith}
@@ -8,7 +9,7 @@ use lib.ListN.{length, take, drop, getD, set, length-append, List·getD-append}
 use lib.Seq.{sets-eq, length-take-le, getD-take, take-add, take-at, drop-at}
 use Rattle.laws.specs.Tools.{part}
 use Rattle.laws.specs.Lists.{part-length}
-use Rattle.defs.specs.Steps.{Step, stepSize, stepWords}
+use Rattle.defs.specs.Steps.{Step, stepSize, stepWords, parentWord, indexWord}
 use Rattle.walk.specs.Hyps.{parentOf, indexOf}
 use Rattle.walk.specs.Steps.{step, withStep}
 use Rattle.walk.specs.declared.hyps.ParentHyp.{ParentHyp}
@@ -25,17 +26,32 @@ pub of-parent : (h : ParentHyp) (s : StatementNo) (i : ℕ) → h ≡ Of s i →
 unfolding parentOf indexOf
 of-parent h s i e = rw e (refl, refl)
 
+-- a parent word is at most one more than the statement
+pub parent-most : (explicit : Bool) (k : ℕ) → parentWord explicit k ≤ k + 1
+parent-most true k = omega arith
+parent-most false k = omega arith
+
+-- the index word of the next child
+pub index-next : (explicit : Bool) (k : ℕ) → indexWord explicit k + indexWord explicit 1 ≡ indexWord explicit (k + 1)
+index-next true k = refl
+index-next false k = refl
+
+-- an index word is at most the place
+pub index-most : (explicit : Bool) (k : ℕ) → indexWord explicit k ≤ k
+index-most true k = omega arith
+index-most false k = omega arith
+
 -- ---- the five stores
 
-pub five-stores : (l : List ℕ) (i a b c d e parent index : ℕ) → i + stepSize ≤ length l → d ≡ parent → e ≡ index
-    → set (set (set (set (set l i a) (i + 1) b) (i + 2) c) (i + 3) d) (i + 4) e ≡ withStep l i (step a b c parent index)
+pub five-stores : (l : List ℕ) (i a b c d e : ℕ) → i + stepSize ≤ length l
+    → set (set (set (set (set l i a) (i + 1) b) (i + 2) c) (i + 3) d) (i + 4) e ≡ withStep l i (step a b c d e)
 unfolding withStep stepWords
-five-stores l i a b c d e parent index h is-parent is-index =
+five-stores l i a b c d e h =
     let e1 : i + 1 ≡ suc i = omega arith in
     let e2 : i + 2 ≡ suc (suc i) = omega arith in
     let e3 : i + 3 ≡ suc (suc (suc i)) = omega arith in
     let e4 : i + 4 ≡ suc (suc (suc (suc i))) = omega arith in
-    rw (e1, e2, e3, e4, ← is-parent, ← is-index) (sets-eq (a ∷ b ∷ c ∷ d ∷ e ∷ []) l i h)
+    rw (e1, e2, e3, e4) (sets-eq (a ∷ b ∷ c ∷ d ∷ e ∷ []) l i h)
 
 -- ---- what stands in the list afterwards
 

@@ -7,7 +7,7 @@ use Prim.Native.Nat.{ℕ, suc, _+_, _*_, _-_, _≤_, _<_}
 use lib.ListN.{length, set, replicate}
 use lib.Dec.{eqb, ltb}
 use Rattle.laws.specs.Tools.{pick, part}
-use Rattle.defs.specs.Table.{word, maxWord, maxChildRefs}
+use Rattle.defs.specs.Table.{word, maxWord, maxChildRefs, childCountIn, entryWords, childWords}
 use Rattle.defs.specs.Graph.{Graph, graphIn}
 use Rattle.defs.specs.Counts.{parents}
 use Rattle.defs.specs.Steps.{stepSize, flat, Walk, markOf, visit, packedSteps}
@@ -47,12 +47,11 @@ finishes gets e statement parent index h =
     (held (withStep (set (set (h .words) 0 next) (entryAt e) (marked + next)) (h .end) (step 0 next statement parent index)) (h .end + stepSize))
     (held (withStep (h .words) (h .end) (step 0 0 statement parent index)) (h .end + stepSize))
 
--- what either asks: the entry's word and room for a step, a mark more and the parent word
-pub record Room (e parent : ℕ) (h : Held) : Type 0 where
+-- what either asks: the entry's word, room for a step and a mark more
+pub record Room (e : ℕ) (h : Held) : Type 0 where
   pub entry-in : entryAt e < length (h .words)
   pub step-in : h .end + stepSize ≤ length (h .words)
   pub mark-fits : marked + (word (h .words) 0 + 1) ≤ maxWord
-  pub hyp-fits : parent ≤ maxWord
 
 -- ---- the walk of document 01 that they hold
 
@@ -79,7 +78,6 @@ visitFrom es cs counts explicit e parent index t = visit (graphIn es cs) counts 
 pub record Visitable (es cs : List ℕ) (explicit : Bool) (e parent index : ℕ) (h : Held) : Type 0 where
   pub entries : Entries es cs
   pub inside : e < size es
-  pub hyp-fits : parent ≤ maxWord
   pub long : stepsFrom (size es) + stepSize * (length cs + 1) ≤ length (h .words)
   pub counts : List ℕ
   pub from : Walk
@@ -98,6 +96,10 @@ unfoldable pub Listed : (es cs : List ℕ) (explicit : Bool) (e k : ℕ) (h h′
 Listed es cs explicit e k h h′ =
     (counts : List ℕ) (from : Walk) → Stands (graphIn es cs) counts (size es) h from
     → Stands (graphIn es cs) counts (size es) h′ (afterChildren (graphIn es cs) counts explicit e e k from)
+
+-- after all children of entry e of the table w
+abbrev pub ListedAll : (w : List ℕ) (explicit : Bool) (e : ℕ) (h h′ : Held) → Type 0
+ListedAll w explicit e h h′ = Listed (entryWords w) (childWords w) explicit e (childCountIn (entryWords w) e) h h′
 
 -- after the visit of entry e
 unfoldable pub Visited : (es cs : List ℕ) (explicit : Bool) (e parent index : ℕ) (h h′ : Held) → Type 0

@@ -1,12 +1,11 @@
 // The parent hypothesis of a step, and the two words that say it in an explicit list.
 use table::EntryNo;
 use table::StatementNo;
-use table::entries::child_start;
 use table::entries::statement_of;
 ghost use mathlib.Core.Path.{_≡_};
-ghost use Prim.Native.Nat.{_-_, _≤_};
+ghost use Prim.Native.Nat.{_+_, _≤_, _<_};
 ghost use Rattle.table.specs.Records.{EntryIn};
-ghost use Rattle.defs.specs.Table.{maxWord, entryStmtIn, childStartIn};
+ghost use Rattle.defs.specs.Table.{maxWord, entryStmtIn};
 ghost use Rattle.defs.specs.Steps.{parentWord, indexWord};
 ghost use Rattle.walk.specs.Hyps.{parentOf, indexOf};
 
@@ -53,15 +52,20 @@ pub fn child_hyp(entries: &[u32], explicit: bool, e: EntryNo, index: u32) -> Par
     }
 }
 
-// What the child at place i of the child section carries, one of entry e's.
-pub fn hyp_at(entries: &[u32], explicit: bool, e: EntryNo, i: usize) -> ParentHyp
+// The parent word of every child of entry e.
+pub fn parent_word(entries: &[u32], explicit: bool, e: EntryNo) -> u32
     requires { ⌜ EntryIn (now entries) (e .0) ⌝ }
-    requires { ⌜ (childStartIn (now entries) (e .0) ≤ i) × (i ≤ maxWord) ⌝ }
-    ensures { λ r. ⌜ (parentOf r ≡ parentWord explicit (entryStmtIn (now (entries .entry)) (e .0))) × (indexOf r ≡ indexWord explicit (i - childStartIn (now (entries .entry)) (e .0))) ⌝ }
+    requires { ⌜ entryStmtIn (now entries) (e .0) < maxWord ⌝ }
+    ensures { λ r. ⌜ r ≡ parentWord explicit (entryStmtIn (now (entries .entry)) (e .0)) ⌝ }
 {
-    if explicit {
-        let index = i - child_start(entries, e);
-        return child_hyp(entries, explicit, e, index as u32);
-    }
-    ParentHyp::Root
+    let words = hyp_words(child_hyp(entries, explicit, e, 0));
+    words.parent
+}
+
+// The index word of the child after one whose index word is `index`: in a list that is not explicit it stays 0.
+pub fn next_index(explicit: bool, index: u32) -> u32
+    requires { ⌜ index < maxWord ⌝ }
+    ensures { λ r. ⌜ r ≡ index + indexWord explicit 1 ⌝ }
+{
+    if explicit { index + 1 } else { index }
 }

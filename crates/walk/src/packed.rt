@@ -1,8 +1,8 @@
 // Packed walk from QED: an entry without a mark lists its children in order, then itself. The working slice holds how many marks
 // are given, then one word an entry (its counted parents, or its mark: crate::marks), then the steps. Each function is told where the next
 // step goes, and answers where the one after goes.
-use crate::hyps::ParentHyp;
-use crate::hyps::hyp_at;
+use crate::hyps::next_index;
+use crate::hyps::parent_word;
 use crate::marks::COUNTS;
 use crate::marks::MARKED;
 use crate::marks::mark_in;
@@ -17,13 +17,15 @@ use table::entries::child_start;
 use table::entries::statement_of;
 use table::limits::ENTRY_WORDS;
 use table::numbers::wide;
+use table::sections::child_section;
+use table::sections::entry_section;
 ghost use mathlib.Core.Path.{_≡_};
 ghost use lib.ListN.{length};
 ghost use lib.Dec.{eqb, ltb};
 ghost use Rattle.laws.specs.Tools.{pick};
-ghost use Rattle.defs.specs.Table.{word, childCountIn};
-ghost use Rattle.walk.specs.Hyps.{parentOf, indexOf};
-ghost use Rattle.walk.specs.Packed.{entryAt, held, single, finishes, Room, Ready, Listed, Countable, Counted, Packable, Packed};
+ghost use Rattle.defs.specs.Table.{word, entryWords, childWords};
+ghost use Rattle.defs.specs.Checked.{HeaderOk};
+ghost use Rattle.walk.specs.Packed.{entryAt, held, single, finishes, Room, Ready, ListedAll, Countable, Counted, Packable, Packed};
 
 // A back reference has no statement.
 fn statement_unless(mark: u32, statement: u32) -> u32
@@ -37,64 +39,77 @@ fn list_single(
     work: &mut [u32],
     e: EntryNo,
     statement: StatementNo,
-    hyp: ParentHyp,
+    parent: u32,
+    index: u32,
     end: usize,
 ) -> usize
-    requires { ⌜ Room (e .0) (parentOf hyp) (held (now work) end) ⌝ }
-    ensures { λ r. ⌜ held (now (work .exit)) r ≡ single (e .0) (statement .0) (parentOf hyp) (indexOf hyp) (held (now (work .entry)) end) ⌝ }
+    requires { ⌜ Room (e .0) (held (now work) end) ⌝ }
+    ensures { λ r. ⌜ held (now (work .exit)) r ≡ single (e .0) (statement .0) parent index (held (now (work .entry)) end) ⌝ }
 {
     let at = e.0 as usize + 1;
     let mark = mark_in(work[at]);
-    put_step(work, end, mark, 0, statement_unless(mark, statement.0), hyp);
+    let own = statement_unless(mark, statement.0);
+    put_step(work, end, mark, 0, own, parent, index);
     end + STEP_WORDS
 }
 
 // After its children an entry lists itself. If it has more than one counted parent it gets the next mark from 1.
-fn finish(work: &mut [u32], e: EntryNo, statement: StatementNo, hyp: ParentHyp, end: usize) -> usize
-    requires { ⌜ Room (e .0) (parentOf hyp) (held (now work) end) ⌝ }
-    ensures { λ r. ⌜ held (now (work .exit)) r ≡ finishes (ltb 1 (word (now (work .entry)) (entryAt (e .0)))) (e .0) (statement .0) (parentOf hyp) (indexOf hyp) (held (now (work .entry)) end) ⌝ }
+fn finish(
+    work: &mut [u32],
+    e: EntryNo,
+    statement: StatementNo,
+    parent: u32,
+    index: u32,
+    end: usize,
+) -> usize
+    requires { ⌜ Room (e .0) (held (now work) end) ⌝ }
+    ensures { λ r. ⌜ held (now (work .exit)) r ≡ finishes (ltb 1 (word (now (work .entry)) (entryAt (e .0)))) (e .0) (statement .0) parent index (held (now (work .entry)) end) ⌝ }
 {
     let at = e.0 as usize + 1;
     if 1 < work[at] {
         let mark = work[0] + 1;
         work[0] = mark;
         work[at] = MARKED + mark;
-        put_step(work, end, 0, mark, statement.0, hyp);
+        put_step(work, end, 0, mark, statement.0, parent, index);
         return end + STEP_WORDS;
     }
-    put_step(work, end, 0, 0, statement.0, hyp);
+    put_step(work, end, 0, 0, statement.0, parent, index);
     end + STEP_WORDS
 }
 
 // The children of an entry in order, each with what lies below it. The recursion goes to falling entry numbers, since children lie below
-// their parents. One comparison tells an entry that lists its own children first, which has some and no mark, from any other.
+// their parents. One comparison tells an entry that lists its own children first, which has some and no mark, from any other. A walk is as
+// deep as a table has entries, so little is kept from one call to the next: the table's words are handed on by their place, and their
+// sections are cut anew.
 pub fn list_children(
-    entries: &[u32],
-    children: &[u32],
+    words: &&[u32],
     work: &mut [u32],
     explicit: bool,
     e: EntryNo,
     start: usize,
 ) -> usize
-    requires { ⌜ Ready (now entries) (now children) explicit (e .0) (held (now work) start) ⌝ }
-    ensures { λ r. ⌜ Listed (now (entries .entry)) (now (children .entry)) explicit (e .0) (childCountIn (now (entries .entry)) (e .0))
-        (held (now (work .entry)) start) (held (now (work .exit)) r) ⌝ }
+    requires { ⌜ HeaderOk (now (now words)) ⌝ }
+    requires { ⌜ Ready (entryWords (now (now words))) (childWords (now (now words))) explicit (e .0) (held (now work) start) ⌝ }
+    ensures { λ r. ⌜ ListedAll (now (now (words .entry))) explicit (e .0) (held (now (work .entry)) start) (held (now (work .exit)) r) ⌝ }
 {
-    let mut i = child_start(entries, e);
-    let last = i + child_count(entries, e);
+    let own = entry_section(*words);
+    let mut i = child_start(own, e);
+    let last = i + child_count(own, e);
+    let parent = parent_word(own, explicit, e);
+    let mut index: u32 = 0;
     let mut end = start;
     while i < last {
-        let c = child(children, i);
+        let c = child(child_section(*words), i);
+        let entries = entry_section(*words);
         let statement = statement_of(entries, c);
         let at = c.0 as usize + 1;
         if wide(work[at]) < COUNTS * child_count(entries, c) {
-            end = list_children(entries, children, work, explicit, c, end);
-            let hyp = hyp_at(entries, explicit, e, i);
-            end = finish(work, c, statement, hyp, end);
+            end = list_children(words, work, explicit, c, end);
+            end = finish(work, c, statement, parent, index, end);
         } else {
-            let hyp = hyp_at(entries, explicit, e, i);
-            end = list_single(work, c, statement, hyp, end);
+            end = list_single(work, c, statement, parent, index, end);
         }
+        index = next_index(explicit, index);
         i += 1;
     }
     end
@@ -110,22 +125,18 @@ fn begin(children: &[u32], work: &mut [u32], start: usize)
 }
 
 // The packed list from QED, in the working slice after the entries' words; where it ends.
-pub fn pack(
-    entries: &[u32],
-    children: &[u32],
-    work: &mut [u32],
-    explicit: bool,
-    qed: EntryNo,
-) -> usize
-    requires { ⌜ Packable (now entries) (now children) explicit (qed .0) (length (now work)) ⌝ }
-    ensures { λ r. ⌜ Packed (now (entries .entry)) (now (children .entry)) explicit (qed .0) (held (now (work .exit)) r) ⌝ }
+pub fn pack(words: &[u32], work: &mut [u32], explicit: bool, qed: EntryNo) -> usize
+    requires { ⌜ HeaderOk (now words) ⌝ }
+    requires { ⌜ Packable (entryWords (now words)) (childWords (now words)) explicit (qed .0) (length (now work)) ⌝ }
+    ensures { λ r. ⌜ Packed (entryWords (now (words .entry))) (childWords (now (words .entry))) explicit (qed .0) (held (now (work .exit)) r) ⌝ }
 {
+    let entries = entry_section(words);
     let start = entries.len() / ENTRY_WORDS + 1;
-    begin(children, work, start);
+    begin(child_section(words), work, start);
     let statement = statement_of(entries, qed);
     if child_count(entries, qed) == 0 {
-        return list_single(work, qed, statement, ParentHyp::Root, start);
+        return list_single(work, qed, statement, 0, 0, start);
     }
-    let end = list_children(entries, children, work, explicit, qed, start);
-    finish(work, qed, statement, ParentHyp::Root, end)
+    let end = list_children(&words, work, explicit, qed, start);
+    finish(work, qed, statement, 0, 0, end)
 }

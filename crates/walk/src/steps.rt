@@ -1,12 +1,8 @@
 // A step is five u32: reference, mark, statement, parent statement plus 1, hypothesis index.
-use crate::hyps::ParentHyp;
-use crate::hyps::hyp_words;
 ghost use mathlib.Core.Path.{_≡_};
 ghost use Prim.Native.Nat.{_+_, _≤_};
 ghost use lib.ListN.{length};
-ghost use Rattle.defs.specs.Table.{maxWord};
 ghost use Rattle.defs.specs.Steps.{stepSize};
-ghost use Rattle.walk.specs.Hyps.{parentOf, indexOf};
 ghost use Rattle.walk.specs.Steps.{step, withStep};
 
 pub const STEP_WORDS: usize = 5;
@@ -17,16 +13,15 @@ pub fn put_step(
     reference: u32,
     mark: u32,
     statement: u32,
-    hyp: ParentHyp,
+    parent: u32,
+    index: u32,
 )
     requires { ⌜ at + stepSize ≤ length (now list) ⌝ }
-    requires { ⌜ parentOf hyp ≤ maxWord ⌝ }
-    ensures { λ _. ⌜ now (list .exit) ≡ withStep (now (list .entry)) at (step reference mark statement (parentOf hyp) (indexOf hyp)) ⌝ }
+    ensures { λ _. ⌜ now (list .exit) ≡ withStep (now (list .entry)) at (step reference mark statement parent index) ⌝ }
 {
-    let last = hyp_words(hyp);
     list[at] = reference;
     list[at + 1] = mark;
     list[at + 2] = statement;
-    list[at + 3] = last.parent;
-    list[at + 4] = last.index;
+    list[at + 3] = parent;
+    list[at + 4] = index;
 }

@@ -14,6 +14,7 @@ use Rattle.lists.proofs.normal.write_normal.Statement.{statement}
 use Rattle.lists.proofs.normal.write_normal.Tie as tie
 use Rattle.lists.proofs.normal.write_normal.Reads as reads
 use Rattle.lists.proofs.normal.write_normal.Lts as lts
+use Rattle.walk.proofs.hyps.hyp_words.Reads as hyp-words-reads
 use Rattle.walk.proofs.normal.begin.Reads as begin-reads
 use Rattle.walk.proofs.normal.next.Reads as next-reads
 use Rattle.walk.proofs.steps.put_step.Reads as put-step-reads
@@ -81,34 +82,39 @@ returns c =
     let p = c .before .before .before .before .before .before in
     all-listed _ _ _ _ _ _ _ _ _ (p .loop .inv .0) (came-end _ _ _ _ _ _ (c .before .before .before .before .next .ensures) (c .enum-told .given .1)) ∙ ap (λ (l : List Step). over (flat l) (p .before .before .before .before .before .before .before .before .before .args .out .now)) (normal p)
 
--- src/normal.rt:72:9
+-- src/normal.rt:73:21
+hyp-words-requires : tie.Need-hyp-words-requires Inv-loop μ-loop
+hyp-words-requires c κs = omega (arith, stepped c .parent-few)
+
+-- src/normal.rt:74:9
 put-step-requires : tie.Need-put-step-requires Inv-loop μ-loop
 put-step-requires c κs =
-    let t = c .before in
+    let t = c .before .before in
     let p = t .before .before .before .before .before .before .before in
-    (omega (arith, fits _ _ _ _ _ _ _ _ _ (p .loop .inv .0) _ _ _ _ (stepped t), room p, p .loop .inv .1 .1), omega (arith, stepped t .parent-few))
+    omega (arith, fits _ _ _ _ _ _ _ _ _ (p .loop .inv .0) _ _ _ _ (stepped t), room p, p .loop .inv .1 .1)
 
--- src/normal.rt:73:9
+-- src/normal.rt:75:9
 add-at : tie.Need-add-at Inv-loop μ-loop
 add-at c =
-    let t = c .before .before .before .before in
+    let t = c .before .before .before .before .before in
     let p = t .before .before .before .before .before .before .before in
     omega (arith, fits _ _ _ _ _ _ _ _ _ (p .loop .inv .0) _ _ _ _ (stepped t), room p, p .before .before .before .before .before .before .before .before .before .good)
 
 -- src/normal.rt:63:5
 loop-less : tie.Need-loop-less Inv-loop μ-loop
 loop-less c =
-    let t = c .before .before .before .before in
+    let t = c .before .before .before .before .before in
     let p = t .before .before .before .before .before .before .before in
     omega (arith, fits _ _ _ _ _ _ _ _ _ (p .loop .inv .0) _ _ _ _ (stepped t))
 
 -- src/normal.rt:63:5
 loop-again : tie.Need-loop-again Inv-loop μ-loop
 loop-again c =
-    let t = c .before .before .before .before in
-    let p = t .before .before .before .before .before .before .before in (
-      listed-more _ _ _ _ _ _ _ _ _ (p .loop .inv .0) _ _ _ _ (stepped t) _ (c .before .before .put-step .ensures),
-      (c .before .before .before .before .before .before .before .before .before .next .kept .1 .1 .0 ∙ p .loop .inv .1 .0, c .before .before .put-step .kept .0 ∙ p .loop .inv .1 .1),
+    let t = c .before .before .before .before .before in
+    let p = t .before .before .before .before .before .before .before in
+    let words = c .before .before .before .before .hyp-words .ensures in (
+      listed-more _ _ _ _ _ _ _ _ _ (p .loop .inv .0) _ _ _ _ (stepped t) _ (rw (words .0, words .1) at (c .before .before .put-step .ensures)),
+      (t .before .before .before .before .before .next .kept .1 .1 .0 ∙ p .loop .inv .1 .0, c .before .before .put-step .kept .0 ∙ p .loop .inv .1 .1),
     )
 
 pub write-normal-spec : {M : Type 1} → statement M
@@ -125,6 +131,7 @@ write-normal-spec =
     same-length
     same-length-2
     returns
+    hyp-words-requires
     put-step-requires
     add-at
     loop-less

@@ -23,8 +23,6 @@ use Rattle.lists.proofs.answers.refused.Reads as refused-reads
 use Rattle.slices.proofs.copy.copy_to.Reads as copy-to-reads
 use Rattle.table.proofs.header.read_header.Reads as read-header-reads
 use Rattle.table.proofs.numbers.wide.Reads as wide-reads
-use Rattle.table.proofs.sections.child_section.Reads as child-section-reads
-use Rattle.table.proofs.sections.entry_section.Reads as entry-section-reads
 use Rattle.table_check.proofs.check.Reads as check-reads
 use Rattle.walk.proofs.packed.pack.Reads as pack-reads
 use Rattle.walk.proofs.room.working_words.Reads as working-words-reads
@@ -41,14 +39,14 @@ enough : (c : tie.Else2) → need32 (c .before .before .before .before .before .
 enough c = omega (arith, c .before .working-words .ensures, c .if2 .left)
 
 -- the packed list stands in it
-packed : (c : tie.After-wide) → Stored (c .before .before .before .before .before .before .before .before .before .before .before .before .before .before .before .before .args .words .now) (c .before .before .before .before .before .before .before .before .before .before .before .before .before .before .before .before .args .explicit) (c .wide .result + 1) (held (c .before .before .before .pack .last .1 .1 .0) (c .before .before .before .pack .result))
+packed : (c : tie.After-wide) → Stored (c .before .before .before .before .before .before .before .before .before .before .before .before .before .before .args .words .now) (c .before .before .before .before .before .before .before .before .before .before .before .before .before .before .args .explicit) (c .wide .result + 1) (held (c .before .before .before .pack .last .1 .0) (c .before .before .before .pack .result))
 packed c =
-    stored _ _ (good (c .before .before .before .before .before .before .before .before .before .before)) _ _ _ _ (c .before .before .before .before .before .before .entry-section .ensures) (c .before .before .before .before .before .child-section .ensures) (c .before .before .before .before .before .before .before .read-header .ensures .qed-is) _
-    (ap (λ (n : ℕ). n + 1) (c .wide .ensures ∙ c .before .before .before .before .before .before .before .read-header .ensures .entries-is)) _ (c .before .before .before .pack .ensures)
+    let read = c .before .before .before .before .before .read-header .ensures in
+    stored _ _ (good (c .before .before .before .before .before .before .before .before)) _ _ (read .qed-is) _ (ap (λ (n : ℕ). n + 1) (c .wide .ensures ∙ read .entries-is)) _ (c .before .before .before .pack .ensures)
 
 -- what the last step leaves of it
-wiped : (c : tie.After-wide) (end : List ℕ) → end ≡ replicate (length (c .before .before .before .pack .last .1 .1 .0)) 0 → end ≡ zeroed (c .before .before .before .before .before .before .before .before .before .before .before .before .before .before .before .before .args .work .now)
-wiped c end is = is ∙ ap (λ (n : ℕ). replicate n 0) (c .before .before .before .pack .kept .1 .1 .0)
+wiped : (c : tie.After-wide) (end : List ℕ) → end ≡ replicate (length (c .before .before .before .pack .last .1 .0)) 0 → end ≡ zeroed (c .before .before .before .before .before .before .before .before .before .before .before .before .before .before .args .work .now)
+wiped c end is = is ∙ ap (λ (n : ℕ). replicate n 0) (c .before .before .before .pack .kept .1 .0)
 
 -- src/packed.rt:29:9
 check-requires : tie.Need-check-requires
@@ -78,17 +76,9 @@ returns-2 c = work-short _ _ _ _ _ _ (good (c .before .before .before)) _ _ (c .
 read-header-requires : tie.Need-read-header-requires
 read-header-requires c κs = right (c .before .before) .ten
 
--- src/packed.rt:37:9
-entry-section-requires : tie.Need-entry-section-requires
-entry-section-requires c κs = right (c .before .before .before)
-
--- src/packed.rt:38:9
-child-section-requires : tie.Need-child-section-requires
-child-section-requires c κs = right (c .before .before .before .before)
-
 -- src/packed.rt:39:9
 pack-requires : tie.Need-pack-requires
-pack-requires c κs = may-pack _ _ (good (c .before .before .before .before .before .before)) _ _ _ _ (c .before .before .entry-section .ensures) (c .before .child-section .ensures) (c .before .before .before .read-header .ensures .qed-is) _ (enough (c .before .before .before .before))
+pack-requires c κs = (right (c .before .before .before .before), may-pack _ _ (good (c .before .before .before .before)) _ _ (c .before .read-header .ensures .qed-is) _ (enough (c .before .before)))
 
 -- src/packed.rt:40:17
 wide-requires : tie.Need-wide-requires
@@ -114,7 +104,7 @@ same-length c = search needs
 returns-3 : tie.Need-returns-3
 returns-3 c =
     let v = c .before .before .before .before .before in
-    no-room _ _ _ _ _ _ (good (v .before .before .before .before .before .before .before .before .before .before)) (enough (v .before .before .before .before .before .before .before .before)) refl _ _ _ (c .before .before .ended .ensures .0 .0) (c .before .before .ended .ensures .0 .1) (wiped v _ (c .before .before .ended .ensures .1)) (omega (arith, packed v .long, c .before .before .before .before .if3 .taken))
+    no-room _ _ _ _ _ _ (good (v .before .before .before .before .before .before .before .before)) (enough (v .before .before .before .before .before .before)) refl _ _ _ (c .before .before .ended .ensures .0 .0) (c .before .before .ended .ensures .0 .1) (wiped v _ (c .before .before .ended .ensures .1)) (omega (arith, packed v .long, c .before .before .before .before .if3 .taken))
 
 -- src/packed.rt:45:13
 mul-copy-to : tie.Need-mul-copy-to
@@ -130,7 +120,7 @@ part-copy-to-start c = packed (c .before .before) .begins
 
 -- src/packed.rt:45:13
 part-copy-to-end : tie.Need-part-copy-to-end
-part-copy-to-end c = omega (arith, packed (c .before .before) .ends, enough (c .before .before .before .before .before .before .before .before .before .before), c .before .before .before .before .before .pack .kept .1 .1 .0)
+part-copy-to-end c = omega (arith, packed (c .before .before) .ends, enough (c .before .before .before .before .before .before .before .before), c .before .before .before .before .before .pack .kept .1 .0)
 
 -- src/packed.rt:45:5
 copy-to-requires : tie.Need-copy-to-requires
@@ -152,7 +142,7 @@ same-length-3 c = search needs
 returns-4 : tie.Need-returns-4
 returns-4 c =
     let v = c .before .before .before .before .before .before .before .before .before .before .before in
-    done _ _ _ _ _ _ (good (v .before .before .before .before .before .before .before .before .before .before)) (enough (v .before .before .before .before .before .before .before .before)) refl _ _ _ _ (c .before .before .ended2 .ensures .0 .0) (c .before .before .ended2 .ensures .0 .1 ∙ packed v .long) (wiped v _ (c .before .before .ended2 .ensures .1)) (copied _ _ _ _ (packed v .front) (c .before .before .before .before .before .before .copy-to .ensures)) (omega (arith, packed v .long, c .before .before .before .before .before .before .before .before .before .before .if3 .left))
+    done _ _ _ _ _ _ (good (v .before .before .before .before .before .before .before .before)) (enough (v .before .before .before .before .before .before)) refl _ _ _ _ (c .before .before .ended2 .ensures .0 .0) (c .before .before .ended2 .ensures .0 .1 ∙ packed v .long) (wiped v _ (c .before .before .ended2 .ensures .1)) (copied _ _ _ _ (packed v .front) (c .before .before .before .before .before .before .copy-to .ensures)) (omega (arith, packed v .long, c .before .before .before .before .before .before .before .before .before .before .if3 .left))
 
 pub packed-list-spec : {M : Type 1} → statement M
 packed-list-spec =
@@ -165,8 +155,6 @@ packed-list-spec =
     refused-requires-2
     returns-2
     read-header-requires
-    entry-section-requires
-    child-section-requires
     pack-requires
     wide-requires
     add-start

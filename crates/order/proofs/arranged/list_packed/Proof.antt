@@ -20,28 +20,19 @@ use Rattle.order.proofs.arranged.list_packed.Statement.{statement}
 use Rattle.order.proofs.arranged.list_packed.Tie as tie
 
 -- where the steps start, and that the packed list stands there
-start-is : (c : tie.After-wide) → c .wide .result + 1 ≡ entries (c .before .before .before .before .before .before .before .before .before .before .args .words .now) + 1
-start-is c = ap (λ (n : ℕ). n + 1) (c .wide .ensures ∙ c .before .before .before .before .before .before .before .read-header .ensures .entries-is)
+start-is : (c : tie.After-wide) → c .wide .result + 1 ≡ entries (c .before .before .before .before .before .before .before .before .args .words .now) + 1
+start-is c = ap (λ (n : ℕ). n + 1) (c .wide .ensures ∙ c .before .before .before .before .before .read-header .ensures .entries-is)
 
-packed : (c : tie.After-wide) → Stored (c .before .before .before .before .before .before .before .before .before .before .args .words .now) false (c .wide .result + 1) (held (c .before .before .before .pack .last .1 .1 .0) (c .before .before .before .pack .result))
-packed c =
-    stored _ _ (c .before .before .before .before .before .before .before .before .before .before .pre .ok) _ _ _ _ (c .before .before .before .before .before .before .entry-section .ensures) (c .before .before .before .before .before .child-section .ensures) (c .before .before .before .before .before .before .before .read-header .ensures .qed-is) _ (start-is c) _ (c .before .before .before .pack .ensures)
+packed : (c : tie.After-wide) → Stored (c .before .before .before .before .before .before .before .before .args .words .now) false (c .wide .result + 1) (held (c .before .before .before .pack .last .1 .0) (c .before .before .before .pack .result))
+packed c = stored _ _ (c .before .before .before .before .before .before .before .before .pre .ok) _ _ (c .before .before .before .before .before .read-header .ensures .qed-is) _ (start-is c) _ (c .before .before .before .pack .ensures)
 
 -- src/arranged.rt:55:9
 read-header-requires : tie.Need-read-header-requires
 read-header-requires c κs = header _ (good _ _ (c .before .before .pre .ok) .ok1) .ten
 
--- src/arranged.rt:56:9
-entry-section-requires : tie.Need-entry-section-requires
-entry-section-requires c κs = header _ (good _ _ (c .before .before .before .pre .ok) .ok1)
-
--- src/arranged.rt:57:9
-child-section-requires : tie.Need-child-section-requires
-child-section-requires c κs = header _ (good _ _ (c .before .before .before .before .pre .ok) .ok1)
-
 -- src/arranged.rt:58:9
 pack-requires : tie.Need-pack-requires
-pack-requires c κs = may-pack _ _ (c .before .before .before .before .before .before .pre .ok) _ _ _ _ (c .before .before .entry-section .ensures) (c .before .child-section .ensures) (c .before .before .before .read-header .ensures .qed-is) _ (c .before .before .before .before .before .before .pre .enough)
+pack-requires c κs = (header _ (good _ _ (c .before .before .before .before .pre .ok) .ok1), may-pack _ _ (c .before .before .before .before .pre .ok) _ _ (c .before .read-header .ensures .qed-is) _ (c .before .before .before .before .pre .enough))
 
 -- src/arranged.rt:59:17
 wide-requires : tie.Need-wide-requires
@@ -57,11 +48,11 @@ sub-steps c = packed c .begins
 
 -- src/arranged.rt:61:9
 statement-section-requires : tie.Need-statement-section-requires
-statement-section-requires c κs = header _ (good _ _ (c .before .before .before .before .before .before .before .before .before .before .pre .ok) .ok1)
+statement-section-requires c κs = header _ (good _ _ (c .before .before .before .before .before .before .before .before .pre .ok) .ok1)
 
 -- src/arranged.rt:62:9
 theorem-list-requires : tie.Need-theorem-list-requires
-theorem-list-requires c κs = theorem-ok _ _ (c .before .before .before .before .before .before .before .before .before .before .before .pre .ok)
+theorem-list-requires c κs = theorem-ok _ _ (c .before .before .before .before .before .before .before .before .before .pre .ok)
 
 -- src/arranged.rt:63:9
 wide-requires-2 : tie.Need-wide-requires-2
@@ -69,7 +60,7 @@ wide-requires-2 c κs = search needs
 
 -- src/arranged.rt:64:9
 list-statements-requires : tie.Need-list-statements-requires
-list-statements-requires c κs = can-list _ _ (c .before .before .before .before .before .before .before .before .before .before .before .before .before .before .pre .ok) _ _ _ (start-is (c .before .before .before .before)) (packed (c .before .before .before .before)) _ _ _ _ (c .before .before .before .statement-section .ensures) (c .before .before .theorem-list .ensures) (c .before .wide2 .ensures ∙ c .before .before .before .before .before .before .before .before .before .before .before .read-header .ensures .statements-is) (steps-are _ _ (c .before .before .before .before .before .before .before .before .before .before .before .before .before .before .pre .ok) _ _ _ (start-is (c .before .before .before .before)) (packed (c .before .before .before .before))) (omega (arith, c .before .before .before .before .before .before .before .before .before .before .before .before .before .before .pre .enough, c .before .before .before .before .before .before .before .pack .kept .1 .1 .0))
+list-statements-requires c κs = can-list _ _ (c .before .before .before .before .before .before .before .before .before .before .before .before .pre .ok) _ _ _ (start-is (c .before .before .before .before)) (packed (c .before .before .before .before)) _ _ _ _ (c .before .before .before .statement-section .ensures) (c .before .before .theorem-list .ensures) (c .before .wide2 .ensures ∙ c .before .before .before .before .before .before .before .before .before .read-header .ensures .statements-is) (steps-are _ _ (c .before .before .before .before .before .before .before .before .before .before .before .before .pre .ok) _ _ _ (start-is (c .before .before .before .before)) (packed (c .before .before .before .before))) (omega (arith, c .before .before .before .before .before .before .before .before .before .before .before .before .pre .enough, c .before .before .before .before .before .before .before .pack .kept .1 .0))
 
 -- src/arranged.rt:51:1
 same-length : tie.Need-same-length
@@ -77,15 +68,13 @@ same-length c = search needs
 
 -- src/arranged.rt:51:1
 returns : tie.Need-returns
-returns c = now-listed _ _ (c .before .before .before .before .before .before .before .before .before .before .before .before .before .before .before .before .before .pre .ok) _ _ _ (start-is (c .before .before .before .before .before .before .before)) (packed (c .before .before .before .before .before .before .before)) _ _ _ _ (c .before .before .before .before .before .before .statement-section .ensures) (c .before .before .before .before .before .theorem-list .ensures) (c .before .before .before .before .wide2 .ensures ∙ c .before .before .before .before .before .before .before .before .before .before .before .before .before .before .read-header .ensures .statements-is) (steps-are _ _ (c .before .before .before .before .before .before .before .before .before .before .before .before .before .before .before .before .before .pre .ok) _ _ _ (start-is (c .before .before .before .before .before .before .before)) (packed (c .before .before .before .before .before .before .before))) _ _ (c .before .before .list-statements .kept .1 .1 .0) (omega (arith, packed (c .before .before .before .before .before .before .before) .ends, c .before .before .before .before .before .before .before .before .before .before .before .before .before .before .before .before .before .pre .enough, c .before .before .before .before .before .before .before .before .before .before .pack .kept .1 .1 .0)) (c .before .before .list-statements .ensures)
+returns c = now-listed _ _ (c .before .before .before .before .before .before .before .before .before .before .before .before .before .before .before .pre .ok) _ _ _ (start-is (c .before .before .before .before .before .before .before)) (packed (c .before .before .before .before .before .before .before)) _ _ _ _ (c .before .before .before .before .before .before .statement-section .ensures) (c .before .before .before .before .before .theorem-list .ensures) (c .before .before .before .before .wide2 .ensures ∙ c .before .before .before .before .before .before .before .before .before .before .before .before .read-header .ensures .statements-is) (steps-are _ _ (c .before .before .before .before .before .before .before .before .before .before .before .before .before .before .before .pre .ok) _ _ _ (start-is (c .before .before .before .before .before .before .before)) (packed (c .before .before .before .before .before .before .before))) _ _ (c .before .before .list-statements .kept .1 .1 .0) (omega (arith, packed (c .before .before .before .before .before .before .before) .ends, c .before .before .before .before .before .before .before .before .before .before .before .before .before .before .before .pre .enough, c .before .before .before .before .before .before .before .before .before .before .pack .kept .1 .0)) (c .before .before .list-statements .ensures)
 
 pub list-packed-spec : {M : Type 1} → statement M
 list-packed-spec =
     tie.close
     (tie.spec
     read-header-requires
-    entry-section-requires
-    child-section-requires
     pack-requires
     wide-requires
     add-start

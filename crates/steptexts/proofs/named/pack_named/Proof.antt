@@ -5,21 +5,20 @@ use Prim.Native.Nat.{_≤_}
 use native.Mathlib.Omega.{arith}
 use borrow.Author.Needs.{needs}
 use lib.ListN.{length}
-use Rattle.defs.specs.Table.{entries}
+use Rattle.defs.specs.Table.{entries, qed}
 use Rattle.defs.specs.Refusals.{need32}
 use Rattle.table.specs.Headers.{header-ok}
-use Rattle.steptexts.proofs.Lent.{Entered}
 use Rattle.steptexts.proofs.NamedLaws.{may-pack, end-is, names-room, may-name, ready}
 use Rattle.steptexts.proofs.named.pack_named.Statement.{statement}
 use Rattle.steptexts.proofs.named.pack_named.Tie as tie
 
--- ---- where the sections are cut, and where the list stands
+-- ---- where the header is read, and where the list stands
 
 abbrev Cut : Type 0
-Cut = tie.After-child-section
+Cut = tie.After-read-header
 
-entered : (s : Cut) → Entered (s .before .before .before .before .before .before .args .words .now) (s .before .entry-section .result .now) (s .child-section .result .now) (s .before .before .read-header .result .qed .0)
-entered s = record { entries-are = s .before .entry-section .ensures; children-are = s .child-section .ensures; qed-is = s .before .before .read-header .ensures .qed-is }
+is-qed : (s : Cut) → s .read-header .result .qed .0 ≡ qed (s .before .before .before .before .args .words .now)
+is-qed s = s .read-header .ensures .qed-is
 
 abbrev Listed : Type 0
 Listed = tie.After-wide
@@ -27,31 +26,25 @@ Listed = tie.After-wide
 abbrev cut : Listed → Cut
 cut c = c .before .before .before .before .before .before
 
-enough : (c : Listed) → need32 (cut c .before .before .before .before .before .before .args .words .now) ≤ length (c .before .before .before .before .pack .last .1 .1 .0)
-enough c = omega (arith, cut c .before .before .before .before .before .before .pre .1, c .before .before .before .before .pack .kept .1 .1 .0)
+enough : (c : Listed) → need32 (cut c .before .before .before .before .args .words .now) ≤ length (c .before .before .before .before .pack .last .1 .0)
+enough c = omega (arith, cut c .before .before .before .before .pre .1, c .before .before .before .before .pack .kept .1 .0)
 
-counted : (c : Listed) → c .wide .result ≡ entries (cut c .before .before .before .before .before .before .args .words .now)
-counted c = c .wide .ensures ∙ cut c .before .before .read-header .ensures .entries-is
+counted : (c : Listed) → c .wide .result ≡ entries (cut c .before .before .before .before .args .words .now)
+counted c = c .wide .ensures ∙ cut c .read-header .ensures .entries-is
 
-room : (c : Listed) → c .before .before .before .before .pack .result ≤ length (c .before .before .before .before .pack .last .1 .1 .0)
-room c = omega (arith, names-room _ _ (cut c .before .before .before .before .before .before .pre .0) (entered (cut c)) (c .before .before .before .before .pack .ensures) (enough c))
+room : (c : Listed) → c .before .before .before .before .pack .result ≤ length (c .before .before .before .before .pack .last .1 .0)
+room c = omega (arith, names-room _ _ (cut c .before .before .before .before .pre .0) (is-qed (cut c)) (c .before .before .before .before .pack .ensures) (enough c))
 
 -- ---- the needs
 
 read-header-requires : tie.Need-read-header-requires
 read-header-requires c κs = header-ok _ _ (c .before .before .before .pre .0) .ten
 
-entry-section-requires : tie.Need-entry-section-requires
-entry-section-requires c κs = header-ok _ _ (c .before .before .before .before .pre .0)
-
-child-section-requires : tie.Need-child-section-requires
-child-section-requires c κs = header-ok _ _ (c .before .before .before .before .before .pre .0)
-
 pack-requires : tie.Need-pack-requires
-pack-requires c κs = may-pack _ _ (c .before .before .before .before .before .before .before .pre .0) (entered (c .before)) (c .before .before .before .before .before .before .before .pre .1)
+pack-requires c κs = (header-ok _ _ (c .before .before .before .before .before .pre .0), may-pack _ _ (c .before .before .before .before .before .pre .0) (is-qed (c .before)) (c .before .before .before .before .before .pre .1))
 
 statement-section-requires : tie.Need-statement-section-requires
-statement-section-requires c κs = header-ok _ _ (c .before .before .before .before .before .before .before .before .before .before .pre .0)
+statement-section-requires c κs = header-ok _ _ (c .before .before .before .before .before .before .before .before .pre .0)
 
 wide-requires : tie.Need-wide-requires
 wide-requires c κs = search needs
@@ -71,15 +64,15 @@ part-mark-names-end c = search needs
 mark-names-requires : tie.Need-mark-names-requires
 mark-names-requires c κs =
     let d : Listed = c .before in
-    may-name _ _ (cut d .before .before .before .before .before .before .pre .0) (entered (cut d)) (d .before .before .before .before .pack .ensures) (enough d) (d .before .statement-section .ensures) (counted d)
+    may-name _ _ (cut d .before .before .before .before .pre .0) (is-qed (cut d)) (d .before .before .before .before .pack .ensures) (enough d) (d .before .statement-section .ensures) (counted d)
 
 add-steps : tie.Need-add-steps
 add-steps c = search needs
 
-sub-t15 : tie.Need-sub-t15
-sub-t15 c =
+sub-t13 : tie.Need-sub-t13
+sub-t13 c =
     let d : Listed = c .before .before .before .before in
-    omega (arith, counted d, end-is _ _ (cut d .before .before .before .before .before .before .pre .0) (entered (cut d)) (d .before .before .before .before .pack .ensures) (enough d))
+    omega (arith, counted d, end-is _ _ (cut d .before .before .before .before .pre .0) (is-qed (cut d)) (d .before .before .before .before .pack .ensures) (enough d))
 
 same-length : tie.Need-same-length
 same-length c = search needs
@@ -87,7 +80,7 @@ same-length c = search needs
 returns : tie.Need-returns
 returns c =
     let d : Listed = c .before .before .before .before in
-    ready _ _ (cut d .before .before .before .before .before .before .pre .0) (entered (cut d)) (d .before .before .before .before .pack .ensures) (enough d) (d .before .statement-section .ensures) (counted d)
+    ready _ _ (cut d .before .before .before .before .pre .0) (is-qed (cut d)) (d .before .before .before .before .pack .ensures) (enough d) (d .before .statement-section .ensures) (counted d)
     (c .before .before .mark-names .ensures) (c .before .before .mark-names .kept .1 .1 .1 .0) _ refl
 
 pub pack-named-spec : {M : Type 1} → statement M
@@ -95,8 +88,6 @@ pack-named-spec =
     tie.close
     (tie.spec
     read-header-requires
-    entry-section-requires
-    child-section-requires
     pack-requires
     statement-section-requires
     wide-requires
@@ -106,6 +97,6 @@ pack-named-spec =
     part-mark-names-end
     mark-names-requires
     add-steps
-    sub-t15
+    sub-t13
     same-length
     returns)

@@ -49,7 +49,7 @@ same-length c = search needs
 
 -- src/packed.rt:36:1
 returns : tie.Need-returns
-returns c = rw (c .before .before .put-step .ensures) (one-step _ _ _ _ _ _ _ (c .before .before .before .before .before .mark-in .ensures) (c .before .before .before .statement-unless .ensures))
+returns c = rw (c .before .before .put-step .ensures) (one-step _ _ _ _ _ _ _ (c .before .before .before .before .before .mark-in .ensures) (c .before .before .before .before .statement-unless .ensures))
 
 pub list-single-spec : {M : Type 1} → statement M
 list-single-spec =

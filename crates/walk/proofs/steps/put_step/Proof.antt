@@ -1,19 +1,13 @@
 -- Five stores one after another are the words of a step.
--- The last two are what `hyp_words` answers.
+-- Each lies in the room that is asked for.
 use Rattle.walk.proofs.StepLaws.{five-stores}
 use lib.ListN.{length-set}
-use mathlib.Core.Path.{_∙_}
 use native.Mathlib.Omega.{arith}
 use borrow.Author.Needs.{needs}
 use Rattle.walk.proofs.steps.put_step.Statement.{statement}
 use Rattle.walk.proofs.steps.put_step.Tie as tie
 use Rattle.walk.proofs.steps.put_step.Reads as reads
 use Rattle.walk.proofs.steps.put_step.Lts as lts
-use Rattle.walk.proofs.hyps.hyp_words.Reads as hyp-words-reads
-
--- src/steps.rt:26:9
-hyp-words-requires : tie.Need-hyp-words-requires
-hyp-words-requires c κs = search needs
 
 -- src/steps.rt:27:5
 mul-list : tie.Need-mul-list
@@ -77,13 +71,12 @@ same-length c = search needs
 
 -- src/steps.rt:14:1
 returns : tie.Need-returns
-returns c = five-stores _ _ _ _ _ _ _ _ _ (c .before .before .pre .0) (c .hyp-words .ensures .0) (c .hyp-words .ensures .1)
+returns c = five-stores _ _ _ _ _ _ _ (c .pre)
 
 pub put-step-spec : {M : Type 1} → statement M
 put-step-spec =
     tie.close
     (tie.spec
-    hyp-words-requires
     mul-list
     slice-write-list
     add-list
