@@ -32,7 +32,7 @@
  * and all zero by every other ending; its contents at the start do not matter.
  *
  * The packed walk calls itself, as deep as the proof is: a chain of 8,192 entries, the deepest that a table can hold, uses a stack of
- * less than 2 MiB. Nothing proves that the caller's stack is long enough. */
+ * less than 1 MiB. Nothing proves that the caller's stack is long enough. */
 #ifndef BULONKERI_H
 #define BULONKERI_H
 
