@@ -27,6 +27,7 @@ pub mod NameLaws
 pub mod Ranges
 pub mod LineLaws
 pub mod OutcomeLaws
+pub mod Inside
 pub mod Unique
 -- The example of document 01.
 pub mod Opened

@@ -1,15 +1,13 @@
 -- The loops that hash: the hash of the first i elements, which stays below the modulus.
--- Where an answer is compared, each test that fails makes the stored one another.
-use mathlib.Core.Path.{_≡_, refl, sym, _∙_}
-use mathlib.Core.Bool.{false}
-use mathlib.Core.List.{List}
-use Prim.Native.Nat.{ℕ, _+_, _<_, _≤_}
+-- The hash of the front of a slice is that of its first elements.
+use mathlib.Core.Path.{_≡_, refl, sym, ap, _∙_}
+use mathlib.Core.List.{List, _++_}
+use Prim.Native.Nat.{ℕ, zero, suc, _+_, _<_, _≤_}
 use native.Mathlib.Numerals.{add-one}
 use native.Mathlib.Omega.{arith}
-use lib.Dec.{eqb}
-use lib.ListN.{length, getD}
-use borrow.Author.Tests.{eq-eqb, ne-eqb}
-use Rattle.vectors.specs.Hash.{modulus, hashed, hashTo, isStored}
+use lib.ListN.{length, getD, take, drop, List·getD-append, take-append-drop}
+use lib.Seq.{length-take-le}
+use Rattle.vectors.specs.Hash.{modulus, hashed, hashTo}
 
 pub record Hashed (xs : List ℕ) (h i : ℕ) : Type 0 where
   pub is : h ≡ hashTo xs i
@@ -29,14 +27,15 @@ turn-hashed {xs} {h} {i} {x} {next} e n l d =
 pub all-hashed : {xs : List ℕ} {h i : ℕ} → length xs ≤ i → Hashed xs h i → h ≡ hashTo xs (length xs)
 all-hashed {xs} {h} {i} l d = let z : i ≡ length xs = omega (arith, d .inside) in rw z at (d .is)
 
-pub other-number : (number len hash l h : ℕ) → (number ≡ 0 → ⊥) → false ≡ isStored number len hash l h
-unfolding isStored
-other-number number len hash l h n = rw (ne-eqb number 0 n) refl
+-- ---- elements behind those that are hashed
 
-pub other-length : (number len hash l h : ℕ) → number ≡ 0 → (len ≡ l → ⊥) → false ≡ isStored number len hash l h
-unfolding isStored
-other-length number len hash l h z n = rw (eq-eqb number 0 z, ne-eqb len l n) refl
+pub front-hash : (xs ys : List ℕ) (k : ℕ) → k ≤ length xs → hashTo (xs ++ ys) k ≡ hashTo xs k
+unfolding hashTo
+front-hash xs ys zero h = refl
+front-hash xs ys (suc k) h = rw (front-hash xs ys k (omega arith), List·getD-append xs ys 0 k (omega arith))
 
-pub same-so-far : (number len hash l h : ℕ) → number ≡ 0 → len ≡ l → eqb hash h ≡ isStored number len hash l h
-unfolding isStored
-same-so-far number len hash l h z e = rw (eq-eqb number 0 z, eq-eqb len l e) refl
+-- the hash of the front of a slice, as the code takes it
+pub hash-front : (xs : List ℕ) (n : ℕ) → n ≤ length xs → hashTo (take n xs) (length (take n xs)) ≡ hashTo xs n
+hash-front xs n h =
+    let l : length (take n xs) ≡ n = length-take-le n xs h in
+    rw l (sym (front-hash (take n xs) (drop n xs) n (omega arith)) ∙ ap (λ (y : List ℕ). hashTo y n) (take-append-drop n xs))

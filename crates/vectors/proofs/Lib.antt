@@ -1,3 +1,4 @@
 mod Arrays
-mod ComparedLaws
 mod HashLaws
+mod AnswerLaws
+mod TallyLaws

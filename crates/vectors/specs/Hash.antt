@@ -1,8 +1,6 @@
 -- The hash by which an answer is stored: 1 at first, and each element is added to 31 times what was.
-use mathlib.Core.Bool.{Bool, _&&_}
 use mathlib.Core.List.{List}
 use Prim.Native.Nat.{ℕ, zero, suc, _+_, _*_, _%_}
-use lib.Dec.{eqb}
 use lib.ListN.{getD}
 
 -- the greatest prime below 2³²
@@ -16,7 +14,3 @@ hashed h x = (31 * h + x + 1) % modulus
 unfoldable pub hashTo : List ℕ → ℕ → ℕ
 hashTo xs zero = 1
 hashTo xs (suc k) = hashed (hashTo xs k) (getD xs k 0)
-
--- an answer is the stored one: it is no refusal, and its length and its hash are those stored
-unfoldable pub isStored : (number length hash storedLength storedHash : ℕ) → Bool
-isStored number length hash storedLength storedHash = eqb number 0 && (eqb length storedLength && eqb hash storedHash)

@@ -1,2 +1,4 @@
 pub mod Hash
-pub mod Compared
+pub mod Answers
+pub mod Tallies
+pub mod Asked

@@ -8,9 +8,11 @@ use table::numbers::wide;
 use table_file::decode;
 use table_file::word;
 ghost use mathlib.Core.Path.{_≡_};
-ghost use Prim.Native.Nat.{_-_, _≤_};
+ghost use Prim.Native.Nat.{_-_};
 ghost use lib.ListN.{length};
-ghost use Rattle.vectors.specs.Compared.{differentAfter, differentAt};
+ghost use Rattle.layout.specs.Layouts.{layoutOf};
+ghost use Rattle.vectors.specs.Asked.{countsCompared, listsCompared, textsCompared, layoutCompared};
+ghost use Rattle.vectors.specs.Tallies.{judged, compared};
 
 // An answer is stored as its length and its hash; this length is for one that the Rust does not give, or that is too long to compare.
 const LEFT_OUT: u32 = 4294967295;
@@ -27,7 +29,7 @@ fn left(stored: &[u8], at: usize) -> usize
 
 // Counts an answer as equal to the stored one or different from it.
 fn judge(tally: Tally, name: &[u8], answer: Answer, length: u32, hash: u32) -> Tally
-    ensures { λ r. ⌜ r .different ≡ differentAfter (answer .number) (answer .length) (answer .hash) length hash (tally .different) ⌝ }
+    ensures { λ r. ⌜ r ≡ judged tally answer length hash ⌝ }
 {
     if length == LEFT_OUT {
         return tally;
@@ -41,8 +43,7 @@ fn judge(tally: Tally, name: &[u8], answer: Answer, length: u32, hash: u32) -> T
 
 // Compares an answer with the stored one, which is the next in the data.
 fn compare(stored: &[u8], tally: Tally, name: &[u8], answer: Answer) -> Tally
-    ensures { λ r. ⌜ (8 ≤ length (now (stored .entry)) - tally .at
-        → r .different ≡ differentAt (now (stored .entry)) (tally .at) (answer .number) (answer .length) (answer .hash) (tally .different)) ⌝ }
+    ensures { λ r. ⌜ r ≡ compared (now (stored .entry)) tally answer ⌝ }
 {
     let at = tally.at;
     if left(stored, at) < 8 {
@@ -60,7 +61,9 @@ fn compare_counts(
     labels: &[u8],
     sums: &mut [u16],
     out: &mut [u32],
-) -> Tally {
+) -> Tally
+    ensures { λ r. ⌜ r ≡ countsCompared (now (stored .entry)) tally (now (words .entry)) (now (labels .entry)) (now (sums .entry)) (now (out .entry)) ⌝ }
+{
     let parents = answers::parents(words, labels, out);
     let distances = answers::distances(words, labels, sums);
     let between = compare(stored, tally, b"parents", parents);
@@ -74,7 +77,9 @@ fn compare_lists(
     labels: &[u8],
     work: &mut [u32],
     out: &mut [u32],
-) -> Tally {
+) -> Tally
+    ensures { λ r. ⌜ r ≡ listsCompared (now (stored .entry)) tally (now (words .entry)) (now (labels .entry)) (now (work .entry)) (now (out .entry)) ⌝ }
+{
     let normal = answers::normal(words, labels, false, work, out);
     let first = compare(stored, tally, b"normal list", normal);
     let explicit = answers::normal(words, labels, true, work, out);
@@ -98,7 +103,10 @@ fn compare_texts(
     work: &mut [u32],
     sums: &mut [u16],
     bytes: &mut [u8],
-) -> Tally {
+) -> Tally
+    ensures { λ r. ⌜ r ≡ textsCompared (now (stored .entry)) tally (now (words .entry)) (now (labels .entry)) (layoutOf layout)
+        (now (work .entry)) (now (sums .entry)) (now (bytes .entry)) 5 ⌝ }
+{
     let mut now = tally;
     let mut style: u32 = 0;
     while style < 5 {
@@ -120,7 +128,10 @@ fn compare_layout(
     sums: &mut [u16],
     out: &mut [u32],
     bytes: &mut [u8],
-) -> Tally {
+) -> Tally
+    ensures { λ r. ⌜ r ≡ layoutCompared (now (stored .entry)) tally (now (words .entry)) (now (labels .entry))
+        (now (work .entry)) (now (sums .entry)) (now (out .entry)) (now (bytes .entry)) ⌝ }
+{
     let at = tally.at;
     if left(stored, at) < 12 {
         return tally.malformed();

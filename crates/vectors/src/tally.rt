@@ -2,7 +2,7 @@
 use crate::printing::print;
 use crate::printing::print_number;
 ghost use mathlib.Core.Path.{_≡_};
-ghost use Rattle.vectors.specs.Compared.{more};
+ghost use Rattle.vectors.specs.Tallies.{more, nothingYet, malformedAt, movedTo, withTable, withLayout, withEqual, withDifferent};
 
 pub struct Tally {
     // the place in the data
@@ -17,7 +17,9 @@ pub struct Tally {
 }
 
 impl Tally {
-    pub fn nothing() -> Self {
+    pub fn nothing() -> Self
+        ensures { λ r. ⌜ r ≡ nothingYet ⌝ }
+    {
         Self {
             at: 0,
             tables: 0,
@@ -29,38 +31,44 @@ impl Tally {
     }
 
     // Data that is not as it must be.
-    pub fn malformed(mut self) -> Self {
+    pub fn malformed(mut self) -> Self
+        ensures { λ r. ⌜ r ≡ malformedAt self ⌝ }
+    {
         self.well_formed = false;
         self
     }
 
     pub fn moved_to(mut self, at: usize) -> Self
-        ensures { λ r. ⌜ r .different ≡ self .different ⌝ }
+        ensures { λ r. ⌜ r ≡ movedTo at self ⌝ }
     {
         self.at = at;
         self
     }
 
-    pub fn with_table(mut self) -> Self {
+    pub fn with_table(mut self) -> Self
+        ensures { λ r. ⌜ r ≡ withTable self ⌝ }
+    {
         self.tables = more(self.tables);
         self.layouts = 0;
         self
     }
 
-    pub fn with_layout(mut self) -> Self {
+    pub fn with_layout(mut self) -> Self
+        ensures { λ r. ⌜ r ≡ withLayout self ⌝ }
+    {
         self.layouts = more(self.layouts);
         self
     }
 
     pub fn with_equal(mut self) -> Self
-        ensures { λ r. ⌜ r .different ≡ self .different ⌝ }
+        ensures { λ r. ⌜ r ≡ withEqual self ⌝ }
     {
         self.compared = more(self.compared);
         self
     }
 
     pub fn with_different(mut self) -> Self
-        ensures { λ r. ⌜ r .different ≡ more (self .different) ⌝ }
+        ensures { λ r. ⌜ r ≡ withDifferent self ⌝ }
     {
         self.compared = more(self.compared);
         self.different = more(self.different);

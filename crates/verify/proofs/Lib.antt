@@ -1,4 +1,3 @@
-mod Fits
 mod AgainLaws
 mod WalkLaws
 mod SpelledLaws

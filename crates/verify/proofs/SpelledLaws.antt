@@ -9,10 +9,10 @@ use Rattle.laws.specs.Lists.{eqb-no}
 use Rattle.defs.specs.Layout.{Layout}
 use Rattle.defs.specs.Outcome.{answerOne, answerTwo, lettersOutcome}
 use Rattle.defs.specs.Decode.{decodeOutcome}
+use Rattle.defs.specs.Inside.{one-inside, decode-inside}
 use Rattle.verify.specs.Gave.{Gave, gave}
 use Rattle.verify.specs.Verified.{unless, lettersGave, decodedGave, spelledWay}
 use Rattle.verify.specs.Spelled.{Decoding}
-use Rattle.verify.proofs.Fits.{decode-fits}
 use Rattle.verify.specs.declared.verdict.Stage.the-variants.{Letters, Decoded}
 use Rattle.verify.specs.declared.spelled.Spelled.the-variants.{Refused, Steps}
 
@@ -36,10 +36,10 @@ module _ (w b : List ℕ) (l : Layout) (work sums list letters steps list′ let
     unfolding Decoding spelledWay unless
     decode-refused bad steps″ next = rw (ap (λ (g : Gave). g .number) spelled-is, fine, ap (λ (g : Gave). g .number) decoded-is, eqb-no m 0 bad)
 
-    pub letters-decoded : m ≡ 0 → length steps′ ≡ length steps → Decoding w b l work sums list letters steps steps′ (Steps len)
+    pub letters-decoded : m ≡ 0 → Decoding w b l work sums list letters steps steps′ (Steps len)
     unfolding Decoding spelledWay unless
-    letters-decoded good kept =
+    letters-decoded good =
         record {
           goes-on = λ next. rw (ap (λ (g : Gave). g .number) spelled-is, fine, ap (λ (g : Gave). g .number) decoded-is, good);
-          steps-kept = record { fits = decode-fits w b (take first list′) (take second letters′) steps steps′ m len works′ decodes kept; holds = sym (ap (λ (g : Gave). g .first) decoded-is) };
+          steps-kept = record { fits = one-inside decodes (decode-inside w b (take first list′) (take second letters′) steps); holds = sym (ap (λ (g : Gave). g .first) decoded-is) };
         }

@@ -9,11 +9,11 @@ use lib.ListN.{length, take}
 use Rattle.laws.specs.Lists.{eqb-no}
 use Rattle.defs.specs.Outcome.{answerOne, answerTwo, stepListOutcome}
 use Rattle.defs.specs.Replay.{replayOutcome}
+use Rattle.defs.specs.Inside.{one-inside, two-inside, list-inside, replay-inside}
 use Rattle.verify.specs.Gave.{Gave, gave, list-same, replay-same}
 use Rattle.verify.specs.Verified.{unless, agreeing, readAgain, packedGave, builtGave, packedWay, normalWay, listsWay}
 use Rattle.verify.specs.Came.{Held, Came}
 use Rattle.verify.proofs.AgainLaws.{again-same}
-use Rattle.verify.proofs.Fits.{list-fits, replay-fits}
 use Rattle.verify.specs.declared.verdict.Stage.the-variants.{PackedList, PackedRead, NormalList, NormalRead}
 use Rattle.verify.specs.declared.verdict.Verdict.{Verdict}
 use Rattle.verify.specs.declared.verdict.Verdict.the-variants.{Agree, Refused, Differ}
@@ -69,14 +69,13 @@ module _ (w b work packed built kids packed′ : List ℕ) (n len : ℕ) (works 
     unfolding Came packedWay unless
     packed-unread bad packed″ built″ kids″ next = rw (ap (λ (g : Gave). g .number) list-is, fine, read-is, eqb-no m 0 bad)
 
-    pub packed-read : m ≡ 0 → (k : Kept) → k .packed ≡ len → k .built ≡ first → k .kids ≡ second
-        → length packed′ ≡ length packed → length built′ ≡ length built → length kids′ ≡ length kids → came packed′ built′ kids′ (Read k)
+    pub packed-read : m ≡ 0 → (k : Kept) → k .packed ≡ len → k .built ≡ first → k .kids ≡ second → came packed′ built′ kids′ (Read k)
     unfolding Came packedWay unless
-    packed-read good k e₁ e₂ e₃ same₁ same₂ same₃ =
-        let fits = replay-fits w b (take len packed′) work′ built kids built′ kids′ m first second works′ reads same₂ same₃ in
+    packed-read good k e₁ e₂ e₃ =
+        let fits = two-inside reads (replay-inside w b (take len packed′) work′ built kids) in
         record {
           goes-on = λ next. rw (ap (λ (g : Gave). g .number) list-is, fine, read-is, good);
-          packed-kept = record { fits = rw e₁ (list-fits w b true false work packed packed′ n len works answered same₁); holds = rw (e₁, list-is) };
+          packed-kept = record { fits = rw e₁ (one-inside answered (list-inside w b true false work packed)); holds = rw (e₁, list-is) };
           built-kept = record { fits = rw e₂ (fits .0); holds = rw (e₂, read-is) };
           kids-kept = record { fits = rw e₃ (fits .1); holds = rw (e₃, read-is) };
         }

@@ -1,6 +1,7 @@
 -- `read_back` meets its contract: what the operation wrote stands inside its outputs.
 -- A law of the operation's outcome says so.
-use Rattle.bulonkeri.proofs.Fits.{replay-inside}
+use Rattle.bulonkeri.proofs.Fits.{two-count}
+use Rattle.defs.specs.Inside.{replay-inside}
 use borrow.Author.Needs.{needs}
 use Rattle.bulonkeri.proofs.clean.read_back.Statement.{statement}
 use Rattle.bulonkeri.proofs.clean.read_back.Tie as tie
@@ -18,7 +19,7 @@ same-length-3 : tie.Need-same-length-3
 same-length-3 c = search needs
 
 returns : tie.Need-returns
-returns c = replay-inside _ _ _ _ _ _ (c .before .before .before .before .before .before .replay .ensures)
+returns c = two-count (c .before .before .before .before .before .before .replay .ensures) (replay-inside _ _ _ _ _ _)
 
 pub read-back-spec : {M : Type 1} → statement M
 read-back-spec =

@@ -1,6 +1,7 @@
 -- `measure` meets its contract: what the operation wrote stands inside its output.
 -- A law of the operation's outcome says so.
-use Rattle.bulonkeri.proofs.Fits.{distances-inside}
+use Rattle.bulonkeri.proofs.Fits.{one-counts}
+use Rattle.defs.specs.Inside.{distances-inside}
 use borrow.Author.Needs.{needs}
 use Rattle.bulonkeri.proofs.distances.measure.Statement.{statement}
 use Rattle.bulonkeri.proofs.distances.measure.Tie as tie
@@ -12,7 +13,7 @@ same-length : tie.Need-same-length
 same-length c = search needs
 
 returns : tie.Need-returns
-returns c = distances-inside _ _ _ (c .before .before .distances .ensures)
+returns c = one-counts (c .before .before .distances .ensures) (distances-inside _ _ _)
 
 pub measure-spec : {M : Type 1} → statement M
 measure-spec = tie.close (tie.spec distances-requires same-length returns)

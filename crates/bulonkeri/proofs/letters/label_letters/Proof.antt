@@ -1,6 +1,7 @@
 -- `label_letters` meets its contract: what the operation wrote stands inside its outputs, and the labels are statements.
 -- Laws of the operation's outcome say so.
-use Rattle.bulonkeri.proofs.Fits.{letters-inside}
+use Rattle.bulonkeri.proofs.Fits.{two-count}
+use Rattle.defs.specs.Inside.{letters-inside}
 use Rattle.bulonkeri.proofs.Lists.{letters-listed}
 use borrow.Author.Needs.{needs}
 use Rattle.bulonkeri.proofs.letters.label_letters.Statement.{statement}
@@ -22,7 +23,7 @@ same-length-4 : tie.Need-same-length-4
 same-length-4 c = search needs
 
 returns : tie.Need-returns
-returns c = let i = letters-inside _ _ _ _ _ _ _ (c .before .before .before .before .before .before .before .before .label-letters .ensures) in (i .0, (i .1, letters-listed _ _ _ _ _ _ _ (c .before .before .before .before .before .before .before .before .label-letters .ensures)))
+returns c = let i = two-count (c .before .before .before .before .before .before .before .before .label-letters .ensures) (letters-inside _ _ _ _ _ _ _) in (i .0, (i .1, letters-listed _ _ _ _ _ _ _ (c .before .before .before .before .before .before .before .before .label-letters .ensures)))
 
 pub label-letters-spec : {M : Type 1} → statement M
 label-letters-spec =

@@ -1,6 +1,7 @@
 -- `step_list` meets its contract: what the operation wrote stands inside its output.
 -- A law of the operation's outcome says so.
-use Rattle.bulonkeri.proofs.Fits.{list-inside}
+use Rattle.bulonkeri.proofs.Fits.{one-counts}
+use Rattle.defs.specs.Inside.{list-inside}
 use borrow.Author.Needs.{needs}
 use Rattle.bulonkeri.proofs.list.step_list.Statement.{statement}
 use Rattle.bulonkeri.proofs.list.step_list.Tie as tie
@@ -15,7 +16,7 @@ same-length-2 : tie.Need-same-length-2
 same-length-2 c = search needs
 
 returns : tie.Need-returns
-returns c = list-inside _ _ _ _ _ _ (c .before .before .before .before .packed-list .ensures)
+returns c = one-counts (c .before .before .before .before .packed-list .ensures) (list-inside _ _ _ _ _ _)
 
 normal-list-requires : tie.Need-normal-list-requires
 normal-list-requires c κs = search needs
@@ -27,7 +28,7 @@ same-length-4 : tie.Need-same-length-4
 same-length-4 c = search needs
 
 returns-2 : tie.Need-returns-2
-returns-2 c = list-inside _ _ _ _ _ _ (c .before .before .before .before .normal-list .ensures)
+returns-2 c = one-counts (c .before .before .before .before .normal-list .ensures) (list-inside _ _ _ _ _ _)
 
 pub step-list-spec : {M : Type 1} → statement M
 step-list-spec =

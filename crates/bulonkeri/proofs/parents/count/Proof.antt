@@ -1,6 +1,7 @@
 -- `count` meets its contract: what the operation wrote stands inside its output.
 -- A law of the operation's outcome says so.
-use Rattle.bulonkeri.proofs.Fits.{parents-inside}
+use Rattle.bulonkeri.proofs.Fits.{one-counts}
+use Rattle.defs.specs.Inside.{parents-inside}
 use borrow.Author.Needs.{needs}
 use Rattle.bulonkeri.proofs.parents.count.Statement.{statement}
 use Rattle.bulonkeri.proofs.parents.count.Tie as tie
@@ -12,7 +13,7 @@ same-length : tie.Need-same-length
 same-length c = search needs
 
 returns : tie.Need-returns
-returns c = parents-inside _ _ _ (c .before .before .parents .ensures)
+returns c = one-counts (c .before .before .parents .ensures) (parents-inside _ _ _)
 
 pub count-spec : {M : Type 1} → statement M
 count-spec = tie.close (tie.spec parents-requires same-length returns)

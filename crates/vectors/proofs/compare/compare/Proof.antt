@@ -1,6 +1,7 @@
--- `compare` meets its contract: the stored length and hash are the next two words of the data.
+-- `compare` meets its contract: the stored length and hash are the next two words of the data, if it has them.
 -- The rest is found.
-use Rattle.vectors.proofs.ComparedLaws.{as-read}
+use Rattle.vectors.proofs.TallyLaws.{no-answer, next-answer}
+use native.Mathlib.Omega.{arith}
 use borrow.Author.Needs.{needs}
 use Rattle.vectors.proofs.compare.compare.Statement.{statement}
 use Rattle.vectors.proofs.compare.compare.Tie as tie
@@ -12,7 +13,7 @@ malformed-requires : tie.Need-malformed-requires
 malformed-requires c κs = search needs
 
 returns : tie.Need-returns
-returns c = search needs
+returns c = no-answer _ _ _ (omega arith) (c .malformed .ensures)
 
 word-requires : tie.Need-word-requires
 word-requires c κs = search needs
@@ -33,7 +34,7 @@ judge-requires : tie.Need-judge-requires
 judge-requires c κs = search needs
 
 returns-2 : tie.Need-returns-2
-returns-2 c = λ _. as-read _ _ _ (c .before .before .before .word .ensures) (c .before .before .word2 .ensures) (c .before .moved-to .ensures) (c .judge .ensures)
+returns-2 c = next-answer _ _ _ (omega arith) (c .before .before .before .word .ensures) (c .before .before .word2 .ensures) (c .before .moved-to .ensures) (c .judge .ensures)
 
 pub compare-spec : {M : Type 1} → statement M
 compare-spec =

@@ -1,5 +1,7 @@
--- `compare_layout` is safe: each call keeps the lengths of what it is lent.
--- The rest is found.
+-- `compare_layout` meets its contract: the layout is read, then label list, letters and texts are asked for and compared.
+-- Slices that were lent before count by their lengths, which each call keeps.
+use native.Mathlib.Omega.{arith}
+use Rattle.vectors.proofs.AnswerLaws.{no-layout, layout-asked}
 use mathlib.Core.Path.{_∙_}
 use borrow.Author.Needs.{needs}
 use Rattle.vectors.proofs.compare.compare_layout.Statement.{statement}
@@ -12,7 +14,7 @@ malformed-requires : tie.Need-malformed-requires
 malformed-requires c κs = search needs
 
 returns : tie.Need-returns
-returns c = search needs
+returns c = no-layout _ _ _ _ _ _ _ _ (omega (arith, c .before .if1 .taken, c .before .before .left .ensures)) (c .malformed .ensures)
 
 word-requires : tie.Need-word-requires
 word-requires c κs = search needs
@@ -69,7 +71,12 @@ same-length-4 : tie.Need-same-length-4
 same-length-4 c = search needs
 
 returns-2 : tie.Need-returns-2
-returns-2 c = search needs
+returns-2 c =
+    layout-asked _ _ _ _ _ _ _ _ _ _ _ (omega (arith, c .before .before .before .before .before .before .before .before .before .before .before .before .before .before .before .before .before .before .before .before .before .before .before .before .before .before .before .before .before .before .before .before .if1 .left, c .before .before .before .before .before .before .before .before .before .before .before .before .before .before .before .before .before .before .before .before .before .before .before .before .before .before .before .before .before .before .before .before .before .left .ensures))
+    (c .before .before .before .before .before .before .before .before .before .before .before .before .before .before .before .before .before .before .before .before .before .before .before .before .before .before .before .before .before .before .before .word .ensures) (c .before .before .before .before .before .before .before .before .before .before .before .before .before .before .before .before .before .before .before .before .before .before .before .before .before .before .before .before .before .before .word2 .ensures) (c .before .before .before .before .before .before .before .before .before .before .before .before .before .before .before .before .before .before .before .before .before .before .before .before .before .before .before .before .before .word3 .ensures) (c .before .before .before .before .before .before .before .before .before .before .before .before .before .before .before .before .before .before .before .before .before .before .before .before .before .before .before .before .moved-to .ensures) (c .before .before .before .before .before .before .before .before .before .before .before .before .before .before .before .before .before .before .before .before .before .before .before .before .before .before .before .with-layout .ensures)
+    (c .before .before .before .before .before .before .before .before .before .before .before .before .before .before .before .before .before .before .before .before .before .before .label-letters .ensures) (c .before .before .before .before .before .before .before .before .before .before .before .before .compare .ensures) (c .before .before .before .before .before .before .before .before .before .before .compare2 .ensures)
+    (c .before .before .before .before .before .before .before .before .before .before .before .before .before .before .before .before .before .before .before .before .before .before .label-letters .kept .1 .1 .1 .0) (c .before .before .before .before .before .before .before .before .before .before .before .before .before .before .before .before .before .before .before .before .before .before .label-letters .kept .1 .1 .1 .1 .0) (c .before .before .before .before .before .before .before .before .before .before .before .before .before .before .before .before .before .before .before .before .before .before .label-letters .kept .1 .1 .1 .1 .1 .1 .0)
+    (c .before .before .before .before .before .before .compare-texts .ensures)
 
 pub compare-layout-spec : {M : Type 1} → statement M
 compare-layout-spec =

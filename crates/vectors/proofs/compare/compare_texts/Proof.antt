@@ -1,5 +1,8 @@
--- `compare_texts` is safe and ends: each turn keeps the lengths of what it is lent.
+-- `compare_texts` meets its contract: the texts of the styles so far are compared, and each turn keeps the lengths of what it is lent.
 -- The measure is how many styles are left.
+use Rattle.vectors.proofs.AnswerLaws.{text-asked}
+use Rattle.vectors.specs.Asked.{textsCompared}
+use Rattle.layout.specs.Layouts.{layoutOf}
 use lib.ListN.{length}
 use native.Mathlib.Omega.{arith}
 use Prim.Native.Nat.{_-_, _≤_}
@@ -8,13 +11,14 @@ use Rattle.vectors.proofs.compare.compare_texts.Statement.{statement}
 use Rattle.vectors.proofs.compare.compare_texts.Tie as tie
 
 abbrev Inv-loop : tie.InvT-loop
-Inv-loop stored words labels layout work₀ sums₀ bytes₀ now₀ style₀ t13 work sums bytes now style = (length work ≡ length work₀) × (length sums ≡ length sums₀) × (length bytes ≡ length bytes₀) × (style ≤ 5)
+Inv-loop stored words labels layout work₀ sums₀ bytes₀ now₀ style₀ t13 work sums bytes now style = (length work ≡ length work₀) × (length sums ≡ length sums₀) × (length bytes ≡ length bytes₀) × (style ≤ 5) × (now ≡ textsCompared stored now₀ words labels (layoutOf layout) work₀ sums₀ bytes₀ style)
 
 abbrev μ-loop : tie.MeasureT-loop
 μ-loop stored words labels layout work₀ sums₀ bytes₀ now₀ style₀ t13 work sums bytes now style = 5 - style
 
 loop-holds : tie.Need-loop-holds Inv-loop μ-loop
-loop-holds c = (refl, refl, refl, omega arith)
+unfolding textsCompared
+loop-holds c = (refl, refl, refl, omega arith, refl)
 
 text-requires : tie.Need-text-requires Inv-loop μ-loop
 text-requires c κs = omega arith
@@ -47,7 +51,13 @@ loop-less : tie.Need-loop-less Inv-loop μ-loop
 loop-less c = omega arith
 
 loop-again : tie.Need-loop-again Inv-loop μ-loop
-loop-again c = omega arith
+loop-again c = (
+  omega arith,
+  omega arith,
+  omega arith,
+  omega arith,
+  text-asked _ _ _ _ _ _ _ _ _ _ _ _ (c .before .before .before .before .before .before .before .before .before .before .before .before .before .before .loop .inv .4) (c .before .before .before .before .before .before .before .before .before .text .ensures) (c .before .before .before .before .before .before .before .before .before .before .before .before .before .before .loop .inv .0) (c .before .before .before .before .before .before .before .before .before .before .before .before .before .before .loop .inv .1) (c .before .before .before .before .before .before .before .before .before .before .before .before .before .before .loop .inv .2) (c .compare .ensures),
+)
 
 same-length : tie.Need-same-length Inv-loop μ-loop
 same-length c = omega arith
@@ -59,7 +69,7 @@ same-length-3 : tie.Need-same-length-3 Inv-loop μ-loop
 same-length-3 c = omega arith
 
 returns : tie.Need-returns Inv-loop μ-loop
-returns c = omega arith
+returns c = let z : c .before .loop .style ≡ 5 = omega arith in rw z at (c .before .loop .inv .4)
 
 pub compare-texts-spec : {M : Type 1} → statement M
 compare-texts-spec =

@@ -1,6 +1,6 @@
 -- `more` meets its contract: one more below the greatest number, which stays as it is.
 -- The rest is found.
-use Rattle.vectors.proofs.ComparedLaws.{one-more, no-more}
+use Rattle.vectors.proofs.TallyLaws.{one-more, no-more}
 use native.Mathlib.Omega.{arith}
 use borrow.Author.Needs.{needs}
 use Rattle.vectors.proofs.tally.more.Statement.{statement}

@@ -1,5 +1,5 @@
 -- `verify::read_again` meets its contract: each return is one verdict of the definition, from what the replay gave.
--- What it wrote fits its slices, since they keep their lengths. Assumes nothing.
+-- What it wrote stands inside its slices. Assumes nothing.
 use lib.ListN.{take}
 use Rattle.laws.specs.Tools.{same}
 use mathlib.Core.Bool.{true, false}
@@ -7,7 +7,7 @@ use mathlib.Core.Path.{_≡_, refl, sym, _∙_}
 use borrow.Author.Tests.{not-true, not-false}
 use lib.Seq.{length-take-le}
 use Rattle.verify.proofs.AgainLaws.{read-refused, entries-differ, children-differ, read-agrees}
-use Rattle.verify.proofs.Fits.{replay-fits}
+use Rattle.defs.specs.Inside.{two-inside, replay-inside}
 use borrow.Author.Needs.{needs}
 use Rattle.verify.proofs.compare.read_again.Statement.{statement}
 use Rattle.verify.proofs.compare.read_again.Tie as tie
@@ -28,10 +28,10 @@ returns : tie.Need-returns
 returns c = read-refused _ _ _ _ _ _ _ _ _ _ _ _ _ _ _ (c .before .before .before .before .before .before .before .before .replay .ensures) _ refl (c .if1 .taken)
 
 slice-reshare-prefix-equal : tie.Need-slice-reshare-prefix-equal
-slice-reshare-prefix-equal c = replay-fits _ _ _ _ _ _ _ _ _ _ _ _ (c .before .before .before .before .before .before .before .before .replay .ensures) (c .before .before .before .before .before .before .before .before .replay .kept .1 .1 .1 .1 .0) (c .before .before .before .before .before .before .before .before .replay .kept .1 .1 .1 .1 .1 .0) .0
+slice-reshare-prefix-equal c = two-inside (c .before .before .before .before .before .before .before .before .replay .ensures) (replay-inside _ _ _ _ _ _) .0
 
 slice-aggregate-equal : tie.Need-slice-aggregate-equal
-slice-aggregate-equal c = sym (length-take-le _ _ (replay-fits _ _ _ _ _ _ _ _ _ _ _ _ (c .before .before .before .before .before .before .before .before .before .replay .ensures) (c .before .before .before .before .before .before .before .before .before .replay .kept .1 .1 .1 .1 .0) (c .before .before .before .before .before .before .before .before .before .replay .kept .1 .1 .1 .1 .1 .0) .0))
+slice-aggregate-equal c = sym (length-take-le _ _ (two-inside (c .before .before .before .before .before .before .before .before .before .replay .ensures) (replay-inside _ _ _ _ _ _) .0))
 
 equal-requires : tie.Need-equal-requires
 equal-requires c κs = search needs
@@ -49,10 +49,10 @@ returns-2 : tie.Need-returns-2
 returns-2 c = entries-differ _ _ _ _ _ _ _ _ _ _ _ _ _ _ _ (c .before .before .before .before .before .before .before .before .before .before .before .replay .ensures) (c .before .before .before .if1 .left) _ refl (sym (c .before .equal .ensures) ∙ not-true _ (c .if2 .taken))
 
 slice-reshare-prefix-equal-2 : tie.Need-slice-reshare-prefix-equal-2
-slice-reshare-prefix-equal-2 c = replay-fits _ _ _ _ _ _ _ _ _ _ _ _ (c .before .before .before .before .before .before .before .before .before .before .before .replay .ensures) (c .before .before .before .before .before .before .before .before .before .before .before .replay .kept .1 .1 .1 .1 .0) (c .before .before .before .before .before .before .before .before .before .before .before .replay .kept .1 .1 .1 .1 .1 .0) .1
+slice-reshare-prefix-equal-2 c = two-inside (c .before .before .before .before .before .before .before .before .before .before .before .replay .ensures) (replay-inside _ _ _ _ _ _) .1
 
 slice-aggregate-equal-2 : tie.Need-slice-aggregate-equal-2
-slice-aggregate-equal-2 c = sym (length-take-le _ _ (replay-fits _ _ _ _ _ _ _ _ _ _ _ _ (c .before .before .before .before .before .before .before .before .before .before .before .before .replay .ensures) (c .before .before .before .before .before .before .before .before .before .before .before .before .replay .kept .1 .1 .1 .1 .0) (c .before .before .before .before .before .before .before .before .before .before .before .before .replay .kept .1 .1 .1 .1 .1 .0) .1))
+slice-aggregate-equal-2 c = sym (length-take-le _ _ (two-inside (c .before .before .before .before .before .before .before .before .before .before .before .before .replay .ensures) (replay-inside _ _ _ _ _ _) .1))
 
 equal-requires-2 : tie.Need-equal-requires-2
 equal-requires-2 c κs = search needs

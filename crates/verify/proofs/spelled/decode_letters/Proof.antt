@@ -1,18 +1,18 @@
 -- `verify::decode_letters` meets its contract: either refusal, or the decoded steps at the front of their slice.
--- What was written fits its slices, since they keep their lengths. Assumes nothing.
+-- What was written stands inside its slices. Assumes nothing.
 use lib.ListN.{length}
 use Prim.Native.Nat.{_≤_}
 use mathlib.Core.Path.{sym}
 use lib.Seq.{length-take-le}
 use Rattle.verify.proofs.SpelledLaws.{letters-refused, decode-refused, letters-decoded}
-use Rattle.verify.proofs.Fits.{letters-fit}
+use Rattle.defs.specs.Inside.{two-inside, letters-inside}
 use borrow.Author.Needs.{needs}
 use Rattle.verify.proofs.spelled.decode_letters.Statement.{statement}
 use Rattle.verify.proofs.spelled.decode_letters.Tie as tie
 
 -- the label list and the letters stand in their slices
 fitting : (c : tie.After-label-letters) → (c .label-letters .result .first ≤ length (c .label-letters .last .1 .1 .1 .1 .1 .0)) × (c .label-letters .result .second ≤ length (c .label-letters .last .1 .1 .1 .1 .1 .1 .0))
-fitting c = letters-fit _ _ _ _ _ _ _ _ _ _ _ _ _ (c .label-letters .ensures) (c .label-letters .kept .1 .1 .1 .1 .1 .0) (c .label-letters .kept .1 .1 .1 .1 .1 .1 .0)
+fitting c = two-inside (c .label-letters .ensures) (letters-inside _ _ _ _ _ _ _)
 
 label-letters-requires : tie.Need-label-letters-requires
 label-letters-requires c κs = search needs
@@ -81,7 +81,7 @@ same-length-14 : tie.Need-same-length-14
 same-length-14 c = search needs
 
 returns-3 : tie.Need-returns-3
-returns-3 c = letters-decoded _ _ _ _ _ _ _ _ _ _ _ _ _ _ (c .before .before .before .before .before .before .before .before .before .before .before .before .before .before .before .before .before .before .label-letters .ensures) (c .before .before .before .before .before .before .before .before .if1 .left) _ _ _ _ (c .before .before .before .before .decode .ensures) (c .if2 .left) (c .before .before .before .before .decode .kept .1 .1 .1 .1 .0)
+returns-3 c = letters-decoded _ _ _ _ _ _ _ _ _ _ _ _ _ _ (c .before .before .before .before .before .before .before .before .before .before .before .before .before .before .before .before .before .before .label-letters .ensures) (c .before .before .before .before .before .before .before .before .if1 .left) _ _ _ _ (c .before .before .before .before .decode .ensures) (c .if2 .left)
 
 pub decode-letters-spec : {M : Type 1} → statement M
 decode-letters-spec =

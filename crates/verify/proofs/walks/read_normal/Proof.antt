@@ -4,7 +4,7 @@ use mathlib.Core.Path.{refl, sym}
 use lib.Seq.{length-take-le}
 use mathlib.Core.Bool.{false}
 use Rattle.verify.proofs.WalkLaws.{normal-refused, normal-read}
-use Rattle.verify.proofs.Fits.{list-fits}
+use Rattle.defs.specs.Inside.{one-inside, list-inside}
 use borrow.Author.Needs.{needs}
 use Rattle.verify.proofs.walks.read_normal.Statement.{statement}
 use Rattle.verify.proofs.walks.read_normal.Tie as tie
@@ -22,10 +22,10 @@ returns : tie.Need-returns
 returns c = normal-refused _ _ _ _ _ _ _ _ _ _ _ _ (c .before .before .before .before .before .before .normal-list .ensures) _ refl (c .if1 .taken)
 
 slice-reshare-prefix-read-again : tie.Need-slice-reshare-prefix-read-again
-slice-reshare-prefix-read-again c = list-fits _ _ false false _ _ _ _ _ _ (c .before .before .before .before .before .before .normal-list .ensures) (c .before .before .before .before .before .before .normal-list .kept .1 .1 .1 .1 .0)
+slice-reshare-prefix-read-again c = one-inside (c .before .before .before .before .before .before .normal-list .ensures) (list-inside _ _ false false _ _)
 
 slice-aggregate-read-again : tie.Need-slice-aggregate-read-again
-slice-aggregate-read-again c = sym (length-take-le _ _ (list-fits _ _ false false _ _ _ _ _ _ (c .before .before .before .before .before .before .before .normal-list .ensures) (c .before .before .before .before .before .before .before .normal-list .kept .1 .1 .1 .1 .0)))
+slice-aggregate-read-again c = sym (length-take-le _ _ (one-inside (c .before .before .before .before .before .before .before .normal-list .ensures) (list-inside _ _ false false _ _)))
 
 read-again-requires : tie.Need-read-again-requires
 read-again-requires c κs = search needs

@@ -1,10 +1,10 @@
 -- `verify::read_packed` meets its contract: a refusal ends the way, and what was written is kept in the slices.
--- What was written fits them, since they keep their lengths. Assumes nothing.
+-- What was written stands inside them. Assumes nothing.
 use mathlib.Core.Path.{refl, sym}
 use lib.Seq.{length-take-le}
 use mathlib.Core.Bool.{true, false}
 use Rattle.verify.proofs.WalkLaws.{packed-refused, packed-unread, packed-read}
-use Rattle.verify.proofs.Fits.{list-fits}
+use Rattle.defs.specs.Inside.{one-inside, list-inside}
 use borrow.Author.Needs.{needs}
 use Rattle.verify.proofs.walks.read_packed.Statement.{statement}
 use Rattle.verify.proofs.walks.read_packed.Tie as tie
@@ -22,10 +22,10 @@ returns : tie.Need-returns
 returns c = packed-refused _ _ _ _ _ _ _ _ _ _ (c .before .before .before .before .before .before .packed-list .ensures) (c .if1 .taken) _ _ _
 
 slice-reshare-prefix-replay : tie.Need-slice-reshare-prefix-replay
-slice-reshare-prefix-replay c = list-fits _ _ true false _ _ _ _ _ _ (c .before .before .before .before .before .before .packed-list .ensures) (c .before .before .before .before .before .before .packed-list .kept .1 .1 .1 .1 .0)
+slice-reshare-prefix-replay c = one-inside (c .before .before .before .before .before .before .packed-list .ensures) (list-inside _ _ true false _ _)
 
 slice-aggregate-replay : tie.Need-slice-aggregate-replay
-slice-aggregate-replay c = sym (length-take-le _ _ (list-fits _ _ true false _ _ _ _ _ _ (c .before .before .before .before .before .before .before .packed-list .ensures) (c .before .before .before .before .before .before .before .packed-list .kept .1 .1 .1 .1 .0)))
+slice-aggregate-replay c = sym (length-take-le _ _ (one-inside (c .before .before .before .before .before .before .before .packed-list .ensures) (list-inside _ _ true false _ _)))
 
 replay-requires : tie.Need-replay-requires
 replay-requires c κs = search needs
@@ -60,7 +60,6 @@ same-length-10 c = search needs
 returns-3 : tie.Need-returns-3
 returns-3 c =
     packed-read _ _ _ _ _ _ _ _ _ _ (c .before .before .before .before .before .before .before .before .before .before .before .before .before .before .before .before .before .before .before .packed-list .ensures) (c .before .before .before .before .before .before .before .before .before .before .before .before .before .if1 .left) _ (c .before .before .before .before .before .before .before .before .before .before .before .before .before .before .before .before .before .before .before .packed-list .kept .1 .1 .1 .0) _ _ _ _ _ _ (c .before .before .before .before .before .before .before .before .replay .ensures) (c .if2 .left) _ refl refl refl
-    (c .before .before .before .before .before .before .before .before .before .before .before .before .before .before .before .before .before .before .before .packed-list .kept .1 .1 .1 .1 .0) (c .before .before .before .before .before .before .before .before .replay .kept .1 .1 .1 .1 .0) (c .before .before .before .before .before .before .before .before .replay .kept .1 .1 .1 .1 .1 .0)
 
 pub read-packed-spec : {M : Type 1} → statement M
 read-packed-spec =
