@@ -21,8 +21,9 @@ pub const LIST_WORDS: usize = 327680;
 // A step has at most five letters, since fewer than 15,620 things have a number, and `Z`.
 pub const LETTER_BYTES: usize = 393216;
 
-// Texts: as many bytes as letters, more than three times the packed explicit text of set.mm's largest table.
-pub const TEXT_BYTES: usize = 393216;
+// Texts of 393,216 bytes: as many as letters, more than three times the packed explicit text of set.mm's largest table. They stand
+// between a first line of 15 bytes and a newline.
+pub const TEXT_ANSWER_BYTES: usize = 393232;
 
 // What verify lends beside the working words: normal lists of 100,000 steps; packed lists of 9,600 steps, the letters of so many, and
 // as many children as so many steps take; and the sums of 2,456 statements at width 79.

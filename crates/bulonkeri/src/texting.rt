@@ -2,20 +2,20 @@
 use crate::asked::Asked;
 use crate::asked::Command;
 use crate::asked::wrong;
-use crate::errors::too_large;
 use crate::layouts::LayoutAsked;
 use crate::layouts::layout_from;
-use crate::limits::TEXT_BYTES;
+use crate::limits::TEXT_ANSWER_BYTES;
 use crate::limits::WORK_SUMS;
 use crate::limits::WORK_WORDS;
 use crate::lines::line_named;
 use crate::numbers::Number;
 use crate::numbers::number_in;
 use crate::printing::print;
-use crate::refusals::refused;
+use answers_said::texts::text_said;
 use layout::Layout;
-use table::Written;
-ghost use Rattle.io.specs.Counts.{Counts};
+ghost use Rattle.layout.specs.Layouts.{layoutOf};
+ghost use Rattle.answers_said.specs.Lines.{Said};
+ghost use Rattle.answers_said.specs.Texts.{textRoom, textSaid};
 
 pub struct TextForm {
     pub style: u32,
@@ -65,47 +65,25 @@ pub fn read_command(number: usize) -> Asked {
     asked_for(style, layout)
 }
 
-// The library's operation; what it wrote stands at the front of the output.
-fn write_text(
+// What is printed: the text, or why there is none. Answers how many bytes it is.
+fn answer(
     words: &[u32],
     labels: &[u8],
     form: TextForm,
     work: &mut [u32],
     sums: &mut [u16],
-    out: &mut [u8],
-) -> Written
-    ensures { λ r. ⌜ Counts (r .length) (now (out .exit)) ⌝ }
+    out: &mut [u8; TEXT_ANSWER_BYTES],
+) -> usize
+    ensures { λ r. ⌜ Said (textSaid (now (words .entry)) (now (labels .entry)) (form .style) (layoutOf (form .layout))
+        (now (work .entry)) (now (sums .entry)) (textRoom (now (out .entry)))) r (now (out .exit)) ⌝ }
 {
-    text::text(words, labels, form.style, form.layout, work, sums, out)
-}
-
-fn show(
-    words: &[u32],
-    labels: &[u8],
-    form: TextForm,
-    work: &mut [u32],
-    sums: &mut [u16],
-    out: &mut [u8],
-) {
-    let answer = write_text(words, labels, form, work, sums, out);
-    let length = answer.length;
-    let number = answer.number;
-    if number == 15 {
-        too_large(b"the text has more bytes than", TEXT_BYTES as u32);
-        return;
-    }
-    if number != 0 {
-        refused(number);
-        return;
-    }
-    print(b"done: the text\n");
-    print(&out[..length]);
-    print(b"\n");
+    text_said(words, labels, form.style, form.layout, work, sums, out)
 }
 
 pub fn run(words: &[u32], labels: &[u8], form: TextForm) {
     let mut work = [0u32; WORK_WORDS];
     let mut sums = [0u16; WORK_SUMS];
-    let mut out = [0u8; TEXT_BYTES];
-    show(words, labels, form, &mut work, &mut sums, &mut out);
+    let mut out = [0u8; TEXT_ANSWER_BYTES];
+    let length = answer(words, labels, form, &mut work, &mut sums, &mut out);
+    print(&out[..length]);
 }

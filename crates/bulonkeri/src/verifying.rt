@@ -12,12 +12,14 @@ use crate::limits::VERIFY_NORMAL;
 use crate::limits::VERIFY_PACKED;
 use crate::limits::VERIFY_SUMS;
 use crate::limits::WORK_WORDS;
-use crate::lines::print_line;
 use crate::printing::print;
-use crate::refusals::refused;
+use answers_said::lines::LINE_BYTES;
+use answers_said::verdicts::verdict_said;
 use layout::Layout;
-use verify::Stage;
-use verify::Verdict;
+ghost use Rattle.layout.specs.Layouts.{layoutOf};
+ghost use Rattle.verify.specs.Verified.{lent, verified};
+ghost use Rattle.answers_said.specs.Lines.{Said};
+ghost use Rattle.answers_said.specs.Verdicts.{verdictLines};
 
 // The layout, if any, is the arguments from the third on; `number` is the command's.
 pub fn read_command(number: usize) -> Asked {
@@ -27,76 +29,8 @@ pub fn read_command(number: usize) -> Asked {
     Asked::For(Command::Verify(layout))
 }
 
-// The stages in their order.
-fn stage_number(stage: Stage) -> usize {
-    match stage {
-        Stage::PackedList => 0,
-        Stage::PackedRead => 1,
-        Stage::NormalList => 2,
-        Stage::NormalRead => 3,
-        Stage::Letters => 4,
-        Stage::Decoded => 5,
-        Stage::LettersRead => 6,
-    }
-}
-
-fn print_stage(stage: usize) {
-    print_line(
-        b"the packed list, written
-the packed list, read back
-the normal list, written
-the normal list, read back
-the letters, written
-the letters, decoded
-the decoded letters, read back
-",
-        stage,
-    );
-}
-
-// Which of the program's arrays is too short.
-fn too_large_at(stage: usize) {
-    print(b"too large: ");
-    print_line(
-        b"the packed list has more steps than 9600
-the packed list does not fit when it is read back
-the normal list has more steps than 100000
-the normal list does not fit when it is read back
-statements plus 1, times width plus 1, are more than 196608
-the decoded letters do not fit
-the decoded letters do not fit when they are read back
-",
-        stage,
-    );
-}
-
-// 14 and 15 speak of the slices lent, which are the program's own arrays.
-fn say_refused(stage: usize, number: u32) {
-    if number == 14 || number == 15 {
-        too_large_at(stage);
-        return;
-    }
-    refused(number);
-    print(b"stage: ");
-    print_stage(stage);
-}
-
-fn say(verdict: Verdict) {
-    match verdict {
-        Verdict::Agree => {
-            print(
-                b"done: normal list, packed list and letters are read back as the same entries\n",
-            );
-        }
-        Verdict::Refused(stage, number) => say_refused(stage_number(stage), number),
-        Verdict::Differ(stage) => {
-            print(b"differ: ");
-            print_stage(stage_number(stage));
-        }
-    }
-}
-
-fn show(
+// The lines of the verdict, as they are printed: answers how many bytes they are.
+fn answer(
     words: &[u32],
     labels: &[u8],
     layout: Layout,
@@ -110,7 +44,12 @@ fn show(
     kids: &mut [u32],
     entries: &mut [u32],
     children: &mut [u32],
-) {
+    line: &mut [u8; LINE_BYTES],
+) -> usize
+    ensures { λ r. ⌜ Said (verdictLines (verified (now (words .entry)) (now (labels .entry)) (layoutOf layout)
+        (lent (now (work .entry)) (now (sums .entry)) (now (packed .entry)) (now (steps .entry)) (now (list .entry)) (now (letters .entry))
+        (now (built .entry)) (now (kids .entry)) (now (entries .entry)) (now (children .entry))))) r (now (line .exit)) ⌝ }
+{
     let verdict = verify::verify(
         words,
         labels,
@@ -126,7 +65,7 @@ fn show(
         entries,
         children,
     );
-    say(verdict);
+    verdict_said(verdict, line)
 }
 
 pub fn run(words: &[u32], labels: &[u8], layout: Layout) {
@@ -140,7 +79,8 @@ pub fn run(words: &[u32], labels: &[u8], layout: Layout) {
     let mut kids = [0u32; VERIFY_CHILDREN];
     let mut entries = [0u32; ENTRY_WORDS];
     let mut children = [0u32; VERIFY_CHILDREN];
-    show(
+    let mut line = [0u8; LINE_BYTES];
+    let length = answer(
         words,
         labels,
         layout,
@@ -154,5 +94,7 @@ pub fn run(words: &[u32], labels: &[u8], layout: Layout) {
         &mut kids,
         &mut entries,
         &mut children,
+        &mut line,
     );
+    print(&line[..length]);
 }
