@@ -1,9 +1,11 @@
 // Packed walk from QED: an entry without a mark lists its children in order, then itself. The working slice holds how many marks
 // are given, then one word an entry (its counted parents, or its mark: crate::marks), then the steps. Each function is told where the next
 // step goes, and answers where the one after goes.
+use crate::children::child_in;
+use crate::children::children_of;
+use crate::children::lists_children;
+use crate::children::statement_in;
 use crate::hyps::next_index;
-use crate::hyps::parent_word;
-use crate::marks::COUNTS;
 use crate::marks::MARKED;
 use crate::marks::mark_in;
 use crate::steps::STEP_WORDS;
@@ -11,12 +13,9 @@ use crate::steps::put_step;
 use counts::parents::count_parents;
 use table::EntryNo;
 use table::StatementNo;
-use table::entries::child;
 use table::entries::child_count;
-use table::entries::child_start;
 use table::entries::statement_of;
 use table::limits::ENTRY_WORDS;
-use table::numbers::wide;
 use table::sections::child_section;
 use table::sections::entry_section;
 ghost use mathlib.Core.Path.{_≡_};
@@ -78,9 +77,9 @@ fn finish(
 }
 
 // The children of an entry in order, each with what lies below it. The recursion goes to falling entry numbers, since children lie below
-// their parents. One comparison tells an entry that lists its own children first, which has some and no mark, from any other. A walk is as
-// deep as a table has entries, so little is kept from one call to the next: the table's words are handed on by their place, and their
-// sections are cut anew.
+// their parents. A walk is as deep as a table has entries, so little is kept from one call to the next: the table's words are handed on by
+// their place. And it is two functions in turn, which the compiler makes one, so that a call is for two entries: a return from far
+// down costs as much as several steps.
 pub fn list_children(
     words: &&[u32],
     work: &mut [u32],
@@ -92,22 +91,49 @@ pub fn list_children(
     requires { ⌜ Ready (entryWords (now (now words))) (childWords (now (now words))) explicit (e .0) (held (now work) start) ⌝ }
     ensures { λ r. ⌜ ListedAll (now (now (words .entry))) explicit (e .0) (held (now (work .entry)) start) (held (now (work .exit)) r) ⌝ }
 {
-    let own = entry_section(*words);
-    let mut i = child_start(own, e);
-    let last = i + child_count(own, e);
-    let parent = parent_word(own, explicit, e);
+    let own = children_of(*words, explicit, e);
+    let mut i = own.first;
     let mut index: u32 = 0;
     let mut end = start;
-    while i < last {
-        let c = child(child_section(*words), i);
-        let entries = entry_section(*words);
-        let statement = statement_of(entries, c);
-        let at = c.0 as usize + 1;
-        if wide(work[at]) < COUNTS * child_count(entries, c) {
-            end = list_children(words, work, explicit, c, end);
-            end = finish(work, c, statement, parent, index, end);
+    while i < own.until {
+        let c = child_in(*words, i);
+        let statement = statement_in(*words, c);
+        if lists_children(*words, &work[..], c) {
+            end = list_grandchildren(words, work, explicit, c, end);
+            end = finish(work, c, statement, own.parent, index, end);
         } else {
-            end = list_single(work, c, statement, parent, index, end);
+            end = list_single(work, c, statement, own.parent, index, end);
+        }
+        index = next_index(explicit, index);
+        i += 1;
+    }
+    end
+}
+
+// The same of a child.
+fn list_grandchildren(
+    words: &&[u32],
+    work: &mut [u32],
+    explicit: bool,
+    e: EntryNo,
+    start: usize,
+) -> usize
+    requires { ⌜ HeaderOk (now (now words)) ⌝ }
+    requires { ⌜ Ready (entryWords (now (now words))) (childWords (now (now words))) explicit (e .0) (held (now work) start) ⌝ }
+    ensures { λ r. ⌜ ListedAll (now (now (words .entry))) explicit (e .0) (held (now (work .entry)) start) (held (now (work .exit)) r) ⌝ }
+{
+    let own = children_of(*words, explicit, e);
+    let mut i = own.first;
+    let mut index: u32 = 0;
+    let mut end = start;
+    while i < own.until {
+        let c = child_in(*words, i);
+        let statement = statement_in(*words, c);
+        if lists_children(*words, &work[..], c) {
+            end = list_children(words, work, explicit, c, end);
+            end = finish(work, c, statement, own.parent, index, end);
+        } else {
+            end = list_single(work, c, statement, own.parent, index, end);
         }
         index = next_index(explicit, index);
         i += 1;
