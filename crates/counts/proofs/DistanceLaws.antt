@@ -1,11 +1,12 @@
 -- Laws of the pass that hands distances down, as its two loops run it.
 -- Assumes nothing.
-use mathlib.Core.Path.{_≡_, refl, ap}
+use mathlib.Core.Path.{_≡_, refl, ap, _∙_}
+use mathlib.Core.Logic.{_≢_}
 use mathlib.Core.List.{List, [], _∷_}
 use Prim.Native.Nat.{ℕ, zero, suc, _+_, _-_, _≤_, _<_, min}
 use native.Mathlib.Omega.{arith}
-use lib.ListN.{length, getD, set, replicate, length-set, length-replicate}
-use lib.Seq.{set-getD}
+use lib.ListN.{length, getD, set, replicate, length-set, length-replicate, getD-replicate}
+use lib.Seq.{set-getD, getD-set-other}
 use Rattle.defs.specs.Graph.{Graph}
 use Rattle.defs.specs.Counts.{unreached, lower, descend, distances}
 use Rattle.slices.specs.Parts.{upTo, up-to-none, up-to-next}
@@ -69,7 +70,45 @@ unfolding descend
 descend-done g zero ds h = refl
 descend-done g (suc e) ds h = absurd (omega arith)
 
--- before the pass QED alone is reached, at 0
-pub distances-start : (g : Graph) (n q v : ℕ) (ds : List ℕ) → v ≡ 0 → ds ≡ replicate n unreached → descend g (length (set ds q v)) (set ds q v) ≡ distances g n q
-unfolding distances
-distances-start g n q v ds zero-at e = rw (length-set ds q v, zero-at, e, length-replicate n unreached)
+-- entries that are not reached are passed over
+descend-over : (g : Graph) (k m : ℕ) (ds : List ℕ) → m + k ≤ length ds → ((i : ℕ) → k ≤ i → i < length ds → unreached ≤ getD ds i 0) → ((i : ℕ) → getD ds i 0 ≤ unreached)
+    → descend g k ds ≡ descend g (m + k) ds
+descend-over g k zero ds l far most = let none : 0 + k ≡ k = omega arith in rw none
+descend-over g k (suc m) ds l far most =
+    let up : suc m + k ≡ suc (m + k) = omega arith in
+    let one-less : suc (m + k) - 1 ≡ m + k = omega arith in
+    rw up
+    (descend-over g k m ds (omega arith) far most
+    ∙ rw one-less at (descend-skip g (suc (m + k)) ds (omega arith) (omega arith) (rw one-less (far (m + k) (omega arith) (omega arith))) most))
+
+set-most : (ds : List ℕ) (q v m : ℕ) → v ≤ m → ((i : ℕ) → getD ds i 0 ≤ m) → (i : ℕ) → getD (set ds q v) i 0 ≤ m
+set-most [] q v m l h i = h i
+set-most (d ∷ ds) zero v m l h zero = l
+set-most (d ∷ ds) zero v m l h (suc i) = h (suc i)
+set-most (d ∷ ds) (suc q) v m l h zero = h 0
+set-most (d ∷ ds) (suc q) v m l h (suc i) = set-most ds q v m l (λ j. h (suc j)) i
+
+replicate-most : (n u i : ℕ) → getD (replicate n u) i 0 ≤ u
+replicate-most zero u i = omega arith
+replicate-most (suc n) u zero = omega arith
+replicate-most (suc n) u (suc i) = replicate-most n u i
+
+-- before the pass QED alone is reached, at 0; so it starts with QED
+module _ (n q : ℕ) (l : q < n) where
+  abbrev begun : List ℕ
+  begun = set (replicate n unreached) q 0
+
+  begun-long : length begun ≡ n
+  begun-long = length-set (replicate n unreached) q 0 ∙ length-replicate n unreached
+
+  others : (i : ℕ) → i ≢ q → i < n → getD begun i 0 ≡ unreached
+  others i d m = getD-set-other (replicate n unreached) q i 0 0 d ∙ getD-replicate n i unreached 0 m
+
+  begun-most : (i : ℕ) → getD begun i 0 ≤ unreached
+  begun-most = set-most (replicate n unreached) q 0 unreached (omega arith) (replicate-most n unreached)
+
+  pub distances-start : (g : Graph) (v : ℕ) (ds : List ℕ) → v ≡ 0 → ds ≡ replicate n unreached → descend g (q + 1) (set ds q v) ≡ distances g n q
+  unfolding distances
+  distances-start g v ds zero-at e =
+      let all : n - (q + 1) + (q + 1) ≡ n = omega arith in
+      rw (zero-at, e) (rw all at (descend-over g (q + 1) (n - (q + 1)) begun (omega (arith, begun-long)) (λ i k m. omega (arith, others i (λ z. omega arith) (rw begun-long at m))) begun-most))

@@ -45,7 +45,7 @@ fn hand_down(entries: &[u32], children: &[u32], e: EntryNo, d: u16, out: &mut [u
 }
 
 // The distance of every entry. One descending pass suffices, since children lie below their parents: once an entry's turn comes,
-// its distance stands. What cannot be reached hands nothing down.
+// its distance stands. What cannot be reached hands nothing down, so the pass starts at QED: what stands above it is not reached.
 pub fn all_distances(entries: &[u32], children: &[u32], qed: EntryNo, out: &mut [u16])
     requires { ⌜ EntriesOk (now entries) (now children) (length (now out)) ⌝ }
     requires { ⌜ qed .0 < length (now out) ⌝ }
@@ -54,7 +54,7 @@ pub fn all_distances(entries: &[u32], children: &[u32], qed: EntryNo, out: &mut 
     fill_short(out, UNREACHED);
     let at = qed.0 as usize;
     out[at] = 0;
-    let mut e: usize = out.len();
+    let mut e = at + 1;
     while 0 < e {
         e -= 1;
         let distance = out[e];

@@ -37,8 +37,11 @@ mul-out c = omega arith
 slice-write-out : tie.Need-slice-write-out Inv-loop μ-loop
 slice-write-out c = omega arith
 
+add-e : tie.Need-add-e Inv-loop μ-loop
+add-e c = omega arith
+
 loop-holds : tie.Need-loop-holds Inv-loop μ-loop
-loop-holds c = (omega arith, (refl, refl))
+loop-holds c = (simp length-set (omega (arith, c .before .before .before .fill-short .kept .0, c .before .before .before .before .before .before .before .before .pre .1)), (refl, refl))
 
 sub-e : tie.Need-sub-e Inv-loop μ-loop
 sub-e c = omega arith
@@ -95,7 +98,7 @@ returns c =
     let p = c .before .loop in
     let s = c .before .before .before .before .before .before .before .before .before .before in
     let fill = c .before .before .before .before .before .fill-short in
-    sym (descend-done _ (p .e) (p .out) (c .loop-test .left)) ∙ p .inv .1 .1 ∙ distances-start _ _ (s .args .qed .0) _ (fill .last .0) (omega arith) (fill .ensures)
+    sym (descend-done _ (p .e) (p .out) (c .loop-test .left)) ∙ p .inv .1 .1 ∙ distances-start _ _ (s .pre .1) _ _ _ (omega arith) (fill .ensures)
 
 pub all-distances-spec : {M : Type 1} → statement M
 all-distances-spec =
@@ -107,6 +110,7 @@ all-distances-spec =
     cast-at
     mul-out
     slice-write-out
+    add-e
     loop-holds
     sub-e
     mul-distance
