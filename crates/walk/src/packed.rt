@@ -110,7 +110,7 @@ pub fn list_children(
     end
 }
 
-// The same of a child.
+// The children of a child, listed in the same way.
 fn list_grandchildren(
     words: &&[u32],
     work: &mut [u32],
