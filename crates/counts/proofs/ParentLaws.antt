@@ -7,7 +7,6 @@ use native.Mathlib.Numerals.{add-one}
 use native.Mathlib.Omega.{arith}
 use lib.ListN.{length, getD, take, set, replicate, length-set, length-replicate, getD-replicate}
 use lib.Seq.{ext-getD, take-suc, getD-set-same, getD-set-other, length-take-le}
-use Rattle.laws.specs.Tools.{count}
 use Rattle.laws.specs.Sums.{bit-cases, count-append, count-most}
 use Rattle.counts.specs.Parents.{timesEach, times-length, times-at}
 

@@ -12,7 +12,7 @@ use table::sections::entry_section;
 use table_check::check;
 ghost use mathlib.Core.List.{[]};
 ghost use mathlib.Core.Path.{_≡_};
-ghost use Prim.Native.Nat.{_<_, _≤_, min};
+ghost use Prim.Native.Nat.{_<_, min};
 ghost use lib.ListN.{length};
 ghost use Rattle.defs.specs.Graph.{graphIn};
 ghost use Rattle.defs.specs.Counts.{lower, distances};

@@ -10,7 +10,7 @@ use lib.Dec.{eqb}
 use Rattle.laws.specs.Tools.{keep, firsts, repeats}
 use Rattle.laws.specs.Lists.{All, all-map, all-keep, all-image, all-append, all-getD}
 use Rattle.laws.specs.Counting.{firsts-all, repeated-no}
-use Rattle.defs.specs.Table.{kind, kindIn, statements, entries, statementWords, mandatory, stmtSize}
+use Rattle.defs.specs.Table.{kind, kindIn, statements, entries, statementWords, mandatory}
 use Rattle.defs.specs.Check.{tableRefusal}
 use Rattle.defs.specs.Checked.{statement-ok, theorem-below, sections}
 use Rattle.defs.specs.Laws.{good}

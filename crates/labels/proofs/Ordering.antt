@@ -1,39 +1,33 @@
 -- The label list in the working slice, step by step: weights, order, statements, numbers.
 -- Each step writes behind what it reads, so the listed statements are what they were when the order is turned into statements.
-use mathlib.Core.Path.{_≡_, refl, sym, ap, _∙_, subst}
-use mathlib.Core.Logic.{_⊎_, inl, inr}
-use mathlib.Core.Bool.{true, false, not}
+use mathlib.Core.Path.{_≡_, sym, ap, _∙_}
+use mathlib.Core.Logic.{inl, inr}
+use mathlib.Core.Bool.{false, not}
 use mathlib.Core.List.{List, _++_, map}
 use Prim.Native.Nat.{ℕ, _+_, _-_, _*_, _≤_, _<_}
 use native.Mathlib.Nat.{mul-le-mul-right}
 use native.Mathlib.Omega.{arith}
 use borrow.Rule.Slice.PartMut.{putMid, midOf}
-use lib.ListN.{length, getD, take, drop, length-append, length-drop, length-map, List·getD-append}
+use lib.ListN.{length, getD, take, drop, length-map, List·getD-append}
 use lib.Seq.{getD-take, getD-drop, getD-append-add, length-take-le}
 use lib.Dec.{nltb→le, ltb}
-use Rattle.laws.specs.Tools.{part, any, count, repeats, member, place, pick}
+use Rattle.laws.specs.Tools.{part, count, repeats, member, place, pick}
 use Rattle.laws.specs.Lists.{T-of, All, all-at, all-getD, getD-map, part-at, part-length}
-use Rattle.laws.specs.Sums.{all-count, count-all}
 use Rattle.laws.specs.Counting.{none-at, not-repeated}
-use Rattle.defs.specs.Table.{word, maxWord, maxStatements, maxReferences, maxLabelLength, statements, statementWords, labelLengthIn, labelLength, mandatory, stmtSize}
-use Rattle.defs.specs.Check.{tableRefusal}
-use Rattle.defs.specs.Layout.{maxWidth}
-use Rattle.defs.specs.Steps.{Step, normalStmts}
+use Rattle.defs.specs.Table.{word, statements, statementWords, labelLength, mandatory}
+use Rattle.defs.specs.Steps.{Step}
 use Rattle.defs.specs.Text.{packedOf}
 use Rattle.defs.specs.Order.{used, listed, costOf, useOf, floatings, labelList}
 use Rattle.defs.specs.LabelLaws.{count-labels}
 use Rattle.defs.specs.Sections.{StatementsOk, statements-ok}
-use Rattle.table.specs.Records.{StatementIn}
 use Rattle.listing.specs.Arrays.{OnlyIn, others}
-use Rattle.listing.specs.Kinds.{Holds}
-use Rattle.listing.specs.Listing.{listing, Arrays}
 use Rattle.listing.specs.Labels.{LabelsReady, LabelsNumbered}
 use Rattle.theorem.proofs.Goals.{theorem-ok, list-short}
 use Rattle.blocks.specs.Emission.{Fitting, indexOrder}
 use Rattle.blocks.proofs.Same.{label-list, order-below}
 use Rattle.labels.specs.Weights.{WeighReady, Weighed, NamesReady, Named}
 use Rattle.labels.specs.Ordered.{OrderReady, Ordered}
-use Rattle.labels.proofs.Listed.{listing-is, listed-below, few-listed, theorem-list-below, theorem-list-once}
+use Rattle.labels.proofs.Listed.{listing-is, listed-below, few-listed}
 
 -- ---- a part of a slice given back
 

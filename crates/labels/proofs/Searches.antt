@@ -1,13 +1,12 @@
 -- Laws of a loop over a list that looks for a hit, or counts hits: what is asked of the whole list is asked of the part still to come.
 -- Each is the definition's clause at the head of that part.
-use mathlib.Core.Path.{_≡_, ap}
+use mathlib.Core.Path.{_≡_}
 use mathlib.Core.Bool.{Bool, true, false}
 use mathlib.Core.List.{List}
 use Prim.Native.Nat.{ℕ, _+_, _≤_, _<_}
 use native.Mathlib.Omega.{arith}
 use lib.ListN.{length, getD, drop, drop-of-length-le}
 use Rattle.laws.specs.Tools.{any, keep}
-use Rattle.laws.specs.Lists.{boole}
 use Rattle.theorem.proofs.Searches.{drop-next}
 
 module _ (test : ℕ → Bool) (list : List ℕ) (i : ℕ) where

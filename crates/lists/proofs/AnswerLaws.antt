@@ -1,18 +1,17 @@
 -- The answer of a step list at each return: the first test that refuses gives the number, and the number says what the slices then hold.
 -- Assumes nothing.
-use mathlib.Core.Path.{_≡_, refl, sym, ap, _∙_}
+use mathlib.Core.Path.{_≡_, refl, sym, _∙_}
 use mathlib.Core.Logic.{_≢_}
 use mathlib.Core.Bool.{Bool, true, false, not, _&&_}
 use mathlib.Core.List.{List, [], _∷_}
 use Prim.Native.Nat.{ℕ, _≤_, _<_}
 use native.Mathlib.Omega.{arith}
-use lib.Dec.{ltb}
-use lib.ListN.{length, replicate}
+use lib.ListN.{length}
 use borrow.Author.Tests.{lt-ltb, le-ltb}
 use Rattle.laws.specs.Tools.{over, zeroed}
-use Rattle.defs.specs.Check.{Test, _when_, firstOf, tableRefusal}
-use Rattle.defs.specs.Refusals.{need32, bad13, bad14, bad15}
-use Rattle.defs.specs.Outcome.{answerOne, isEarly, oneOutput, stepListWords, stepListNumber, stepListOutcome}
+use Rattle.defs.specs.Check.{firstOf, tableRefusal}
+use Rattle.defs.specs.Refusals.{need32, bad13}
+use Rattle.defs.specs.Outcome.{answerOne, isEarly, stepListWords, stepListNumber, stepListOutcome}
 use Rattle.defs.specs.OutcomeLaws.{table-refusal-most, else-refused, else-good, refused-early, one-early, one-late, one-done}
 
 -- the fields of an answer one by one

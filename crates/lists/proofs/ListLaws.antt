@@ -9,7 +9,7 @@ use lib.ListN.{length, drop, take, length-append}
 use borrow.Author.Tests.{lt-ltb, le-ltb}
 use lib.Seq.{take-append-seam, drop-append-add, drop-drop}
 use Rattle.laws.specs.Tools.{part, over}
-use Rattle.defs.specs.Table.{entries, childRefs, statements, qed, entryWords, childWords}
+use Rattle.defs.specs.Table.{entries, qed, entryWords, childWords}
 use Rattle.defs.specs.Check.{tableRefusal}
 use Rattle.defs.specs.Graph.{graphIn, graphOf}
 use Rattle.defs.specs.Refusals.{need32, maxNormalSteps, bad13}
@@ -25,7 +25,7 @@ use Rattle.walk.specs.Entries.{size, Entries, entries-of}
 use Rattle.walk.specs.Hyps.{parentOf, indexOf}
 use Rattle.walk.specs.Steps.{step, withStep}
 use Rattle.walk.specs.Normal.{pairSize, Stacked, left, Stepped}
-use Rattle.walk.specs.Packed.{Held, stepsFrom, Packable, Packed}
+use Rattle.walk.specs.Packed.{Held, Packable, Packed}
 use Rattle.walk.specs.declared.hyps.ParentHyp.{ParentHyp}
 use Rattle.walk.specs.Tables.{entries-size, qed-inside, packable, packed-of, normal-of}
 

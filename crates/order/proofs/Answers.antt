@@ -1,18 +1,18 @@
 -- The answer once the work has begun, at each return; and the answer of the whole operation from it.
 -- The first test that refuses gives the number, and the number says what the slices then hold.
-use mathlib.Core.Path.{_≡_, refl, sym, ap, ap₂, _∙_}
+use mathlib.Core.Path.{_≡_, refl, sym, ap, _∙_}
 use mathlib.Core.Logic.{_≢_}
 use mathlib.Core.Bool.{Bool, true, false, _||_}
-use mathlib.Core.List.{List, [], _∷_, _++_, map}
-use Prim.Native.Nat.{ℕ, zero, suc, _+_, _≤_, _<_}
+use mathlib.Core.List.{List, [], _∷_, _++_}
+use Prim.Native.Nat.{ℕ, _≤_, _<_}
 use native.Mathlib.Omega.{arith}
-use lib.ListN.{length, take, drop}
-use lib.Dec.{eqb, ltb}
+use lib.ListN.{length, drop}
+use lib.Dec.{eqb}
 use borrow.Author.Tests.{lt-ltb, le-ltb}
-use Rattle.laws.specs.Tools.{pick, over, zeroed}
-use Rattle.laws.specs.Lists.{boole, eqb-no, or-true}
+use Rattle.laws.specs.Tools.{over, zeroed}
+use Rattle.laws.specs.Lists.{eqb-no, or-true}
 use Rattle.laws.specs.Puts.{Grows}
-use Rattle.defs.specs.Check.{Test, _when_, firstOf, orElse, tableRefusal}
+use Rattle.defs.specs.Check.{_when_, firstOf, orElse, tableRefusal}
 use Rattle.defs.specs.Layout.{Layout, bad8}
 use Rattle.defs.specs.Text.{labelsOf, lettersFor}
 use Rattle.defs.specs.Refusals.{bad10, bad11, bad12, bad14, bad15, need32, need16}

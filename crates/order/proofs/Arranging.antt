@@ -2,29 +2,28 @@
 -- A normal step's statement is in the theorem's list, and then not in the label list, or it is in the label list.
 use mathlib.Core.Path.{_≡_, refl, sym, ap, _∙_}
 use mathlib.Core.Logic.{inl}
-use mathlib.Core.Bool.{Bool, true, false, not}
+use mathlib.Core.Bool.{true, false, not}
 use mathlib.Core.List.{List, [], _∷_}
-use Prim.Native.Nat.{ℕ, _+_, _-_, _*_, _/_, _≤_, _<_, min}
+use Prim.Native.Nat.{ℕ, _+_, _-_, _*_, _≤_, _<_, min}
 use native.Mathlib.Omega.{arith}
 use lib.ListN.{length, getD}
 use lib.Dec.{eqb, ltb}
-use Rattle.laws.specs.Tools.{pick, part, any, keep, member, place, count}
+use Rattle.laws.specs.Tools.{pick, part, any, keep, member, count}
 use Rattle.laws.specs.Lists.{boole, T-of, of-T, eqb-yes, All, all-map, all-at}
 use Rattle.laws.specs.Sums.{member-count, count-member, count-self}
 use Rattle.laws.specs.Counting.{count-keep}
-use Rattle.laws.specs.Puts.{farthest}
-use Rattle.defs.specs.Table.{word, maxWord, maxReferences, maxEntries, statements, entries, childRefs, statementWords, labelLength, mandatory}
+use Rattle.defs.specs.Table.{word, maxWord, statements, entries, statementWords, labelLength, mandatory}
 use Rattle.defs.specs.Check.{tableRefusal}
 use Rattle.defs.specs.Checked.{header, sections}
 use Rattle.defs.specs.Laws.{good}
 use Rattle.defs.specs.Layout.{Layout, lineRoom, bad8}
-use Rattle.defs.specs.Steps.{Step, isNormal, normalStmts, stepSize, flat}
+use Rattle.defs.specs.Steps.{Step, normalStmts, stepSize, flat}
 use Rattle.defs.specs.Text.{packedOf, labelsOf}
 use Rattle.defs.specs.Order.{used, listed, labelList}
 use Rattle.defs.specs.Refusals.{bad12, need32, need16}
 use Rattle.defs.specs.LabelLaws.{count-labels}
 use Rattle.defs.specs.Ranges.{StepFits, packed-steps-fit, labels-listed}
-use Rattle.lettering.specs.Said.{mostStep, numberOf, SaysAll, ListReady}
+use Rattle.lettering.specs.Said.{numberOf, SaysAll}
 use Rattle.theorem.proofs.Goals.{theorem-ok, list-short}
 use Rattle.theorem.specs.Goal.{InStatements}
 use Rattle.labels.proofs.Listed.{listing-is, listed-below, few-listed}

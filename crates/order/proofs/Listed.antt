@@ -1,15 +1,14 @@
 -- The packed list and what is listed of it, in the working slice.
 -- All the room asked for is that of the words of document 01, since a packed list has at most one step more than there are child references.
-use mathlib.Core.Path.{_≡_, refl, sym, ap, _∙_}
+use mathlib.Core.Path.{_≡_, sym, _∙_}
 use mathlib.Core.Logic.{inl}
-use mathlib.Core.Bool.{true, false}
+use mathlib.Core.Bool.{false}
 use mathlib.Core.List.{List}
-use Prim.Native.Nat.{ℕ, _+_, _-_, _*_, _/_, _≤_, _<_}
+use Prim.Native.Nat.{ℕ, _+_, _-_, _*_, _/_, _≤_}
 use native.Mathlib.Omega.{arith}
-use lib.ListN.{length, take, drop}
+use lib.ListN.{length}
 use Rattle.laws.specs.Tools.{part}
-use Rattle.laws.specs.Lists.{All}
-use Rattle.defs.specs.Table.{word, maxWord, statements, entries, childRefs, statementWords, mandatory, stmtSize}
+use Rattle.defs.specs.Table.{statements, entries, childRefs, statementWords, mandatory}
 use Rattle.defs.specs.Check.{tableRefusal}
 use Rattle.defs.specs.Checked.{header, sections}
 use Rattle.defs.specs.Laws.{good, flat-length}
@@ -18,15 +17,13 @@ use Rattle.defs.specs.Text.{packedOf}
 use Rattle.defs.specs.Refusals.{need32}
 use Rattle.defs.specs.Outcome.{stepListWords}
 use Rattle.lengths.specs.Bound.{packed-most}
-use Rattle.walk.specs.Packed.{Held, held, Packed}
+use Rattle.walk.specs.Packed.{held}
 use Rattle.lists.proofs.ListLaws.{Stored}
-use Rattle.listing.specs.Arrays.{OnlyIn}
-use Rattle.listing.specs.Listing.{AllReady, Arrays, Listed}
+use Rattle.listing.specs.Listing.{AllReady, Listed}
 use Rattle.theorem.proofs.Goals.{theorem-ok, list-short}
 use Rattle.labels.proofs.Listed.{packed-below, theorem-list-below, theorem-list-once}
 use Rattle.order.specs.Arrangement.{ListedIn}
 use Rattle.order.proofs.Parts.{part-kept}
-use Rattle.order.specs.declared.arranged.Listed.{Listed as End}
 
 module _ (w b : List ℕ) (ok : tableRefusal w b ≡ 0) where
   abbrev steps-long : ℕ

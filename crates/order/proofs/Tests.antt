@@ -1,6 +1,6 @@
 -- Tests 10 to 12 by what the code asks: of the theorem's list, and of the listed statements.
 -- 11 is a test of the listed statements since those are the reachable ones that are not in the theorem's list.
-use mathlib.Core.Path.{_≡_, refl, sym, ap₂, _∙_}
+use mathlib.Core.Path.{_≡_, refl, sym, _∙_}
 use mathlib.Core.Bool.{Bool, true, false}
 use mathlib.Core.List.{List, [], _∷_}
 use Prim.Native.Nat.{ℕ, _-_, _+_, _*_, _≤_}
@@ -9,11 +9,11 @@ use native.Mathlib.Omega.{arith}
 use lib.Dec.{eqb, ltb}
 use Rattle.laws.specs.Tools.{any}
 use Rattle.defs.specs.Table.{maxStatements, statementWords, kindIn, labelLengthIn}
-use Rattle.defs.specs.Check.{Test, _when_, firstOf, tableRefusal}
+use Rattle.defs.specs.Check.{_when_, firstOf, tableRefusal}
 use Rattle.defs.specs.Layout.{Layout, lineRoom, maxWidth, bad8}
 use Rattle.defs.specs.Text.{packedOf}
 use Rattle.defs.specs.Order.{listed}
-use Rattle.defs.specs.Refusals.{bad10, bad11, bad12}
+use Rattle.defs.specs.Refusals.{bad10, bad12}
 use Rattle.defs.specs.Outcome.{compressedTests}
 use Rattle.lengths.specs.Reached.{stray-listed}
 use Rattle.layout.proofs.Within.{bounds}

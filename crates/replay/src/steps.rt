@@ -1,7 +1,6 @@
 // A step is five u32: reference (0 for a normal step), mark or 0, statement (0 for a reference), parent statement plus 1, hypothesis index.
 use table::numbers::wide;
 ghost use mathlib.Core.Path.{_≡_};
-ghost use mathlib.Core.Bool.{_&&_, _||_};
 ghost use Prim.Native.Nat.{_+_, _*_, _≤_};
 ghost use lib.ListN.{length};
 ghost use Rattle.defs.specs.Steps.{stepSize};

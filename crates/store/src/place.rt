@@ -10,7 +10,7 @@ ghost use mathlib.Core.Path.{_≡_};
 ghost use mathlib.Core.Bool.{not};
 ghost use Prim.Native.Nat.{_+_, _≤_};
 ghost use lib.ListN.{length, take};
-ghost use Rattle.defs.specs.Table.{entrySize, maxEntries, maxReferences, maxChildRefs};
+ghost use Rattle.defs.specs.Table.{entrySize, maxReferences, maxChildRefs};
 ghost use Rattle.store.specs.Store.{full};
 ghost use Rattle.store.specs.Places.{StoreOk, Appended, placeOf, Kept, place};
 

@@ -10,7 +10,7 @@ use table::statements::label_length;
 use table::statements::label_start;
 ghost use mathlib.Core.Path.{_≡_};
 ghost use mathlib.Core.Bool.{not};
-ghost use Prim.Native.Nat.{_*_, _≤_};
+ghost use Prim.Native.Nat.{_*_};
 ghost use lib.ListN.{length};
 ghost use Rattle.laws.specs.Tools.{allOf};
 ghost use Rattle.defs.specs.Table.{stmtSize};

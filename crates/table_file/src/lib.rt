@@ -1,10 +1,9 @@
 // Words as a table file has them: four bytes each, the lowest first.
 use layout::bytes::put_piece;
 ghost use mathlib.Core.Path.{_≡_};
-ghost use mathlib.Core.List.{_∷_, []};
 ghost use Prim.Native.Nat.{ℕ, _+_, _*_, _/_, _<_, _≤_, min};
 ghost use lib.ListN.{length, getD};
-ghost use Rattle.laws.specs.Puts.{farthest, Grows};
+ghost use Rattle.laws.specs.Puts.{Grows};
 ghost use Rattle.table_file.specs.Words.{wordAt, wordBytes, fileBytes, mostWords};
 
 fn wide(x: u8) -> u32

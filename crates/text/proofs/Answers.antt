@@ -2,11 +2,10 @@
 -- Each is the definition's equation, once the tests before it are known to pass.
 use mathlib.Core.Path.{_≡_, refl, sym, ap, _∙_}
 use mathlib.Core.Logic.{_≢_}
-use mathlib.Core.Bool.{Bool, true, false, not, _&&_, _||_}
+use mathlib.Core.Bool.{true, false, not, _&&_, _||_}
 use mathlib.Core.List.{List, [], _∷_}
 use Prim.Native.Nat.{ℕ, _≤_, _<_}
 use native.Mathlib.Omega.{arith}
-use lib.ListN.{length}
 use lib.Dec.{nltb→le, ltb}
 use borrow.Author.Tests.{lt-ltb, le-ltb}
 use Rattle.laws.specs.Lists.{T-of, or-no}

@@ -2,16 +2,16 @@
 -- It follows from the contract alone: an answer 0 says that no test refused, and which text stands at the front.
 use mathlib.Core.Path.{_≡_, refl, sym, ap, _∙_}
 use mathlib.Core.Bool.{Bool, true, false}
-use mathlib.Core.List.{List, [], _∷_, _++_}
+use mathlib.Core.List.{List, [], _∷_}
 use Prim.Native.Nat.{ℕ, zero, suc, _≤_}
 use native.Mathlib.Omega.{arith}
 use lib.ListN.{length, getD, take, drop}
 use lib.Seq.{take-append-seam}
-use Rattle.laws.specs.Tools.{pick, over}
+use Rattle.laws.specs.Tools.{over}
 use Rattle.defs.specs.Check.{_when_, firstOf, orElse, tableRefusal}
 use Rattle.defs.specs.Layout.{Layout, bad8, widest}
-use Rattle.defs.specs.Text.{isCompressed, bad9, textOf}
-use Rattle.defs.specs.Refusals.{bad10, bad11, bad12, bad13, bad14, bad15, need32, need16}
+use Rattle.defs.specs.Text.{bad9, textOf}
+use Rattle.defs.specs.Refusals.{bad10, bad11, bad12, bad15}
 use Rattle.defs.specs.Outcome.{Outcome, answerOne, compressedTests, lengthAfter, outAfter, oneOutput, textNumber, textOutcome}
 use Rattle.defs.specs.LineLaws.{LinesFit, lines-fit}
 

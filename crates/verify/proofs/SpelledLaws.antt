@@ -4,7 +4,7 @@ use mathlib.Core.Path.{_≡_, sym, ap, _∙_}
 use mathlib.Core.Logic.{_≢_}
 use mathlib.Core.List.{List, []}
 use Prim.Native.Nat.{ℕ}
-use lib.ListN.{length, take}
+use lib.ListN.{take}
 use Rattle.laws.specs.Lists.{eqb-no}
 use Rattle.defs.specs.Layout.{Layout}
 use Rattle.defs.specs.Outcome.{answerOne, answerTwo, lettersOutcome}

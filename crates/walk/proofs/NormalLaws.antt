@@ -8,18 +8,17 @@ use Prim.Native.Nat.{ℕ, zero, suc, _+_, _*_, _-_, _<_, _≤_}
 use native.Mathlib.Nat.{eq-or-lt-of-le}
 use native.Mathlib.Numerals.{add-one}
 use native.Mathlib.Omega.{arith}
-use lib.ListN.{length, getD, set, take, drop, length-set, drop-of-length-le}
+use lib.ListN.{length, getD, set, length-set, drop-of-length-le}
 use lib.Seq.{getD-set-same, getD-set-other, drop-cons}
-use Rattle.defs.specs.Table.{word, maxWord, maxStatements, maxChildRefs, entryStmtIn, childStartIn, childCountIn}
+use Rattle.defs.specs.Table.{word, maxStatements, maxChildRefs, entryStmtIn, childStartIn, childCountIn}
 use Rattle.defs.specs.Graph.{Graph, graphIn}
 use Rattle.defs.specs.Steps.{Step, parentWord, indexWord, listChildren, normalWithin, normalSteps}
 use Rattle.defs.specs.Laws.{normal-depth}
-use Rattle.defs.specs.Sections.{EntriesOk, child-at}
+use Rattle.defs.specs.Sections.{child-at}
 use Rattle.walk.specs.Entries.{size, Entries, kids-length, kid-below, entries-fall}
 use Rattle.walk.specs.Hyps.{parentOf, indexOf}
 use Rattle.walk.specs.Steps.{step}
 use Rattle.walk.specs.Normal.{pairSize, entryOn, nextOn, Stacked, rest, parentAt, indexAt, left, Begins, came}
-use Rattle.walk.specs.declared.normal.Taken.{Taken}
 use Rattle.walk.specs.declared.normal.Taken.the-variants.{Step as Next, Done}
 use Rattle.walk.specs.declared.hyps.ParentHyp.{ParentHyp}
 use Rattle.table.specs.declared.numbers.StatementNo.{StatementNo}

@@ -20,10 +20,10 @@ use Rattle.defs.specs.Steps.{Step, stepSize, stepWords, flat, Walk, markOf, par
 use Rattle.defs.specs.Laws.{flat-append, flat-length}
 use Rattle.defs.specs.Sections.{EntriesOk, child-at}
 use Rattle.lengths.specs.Bound.{Grown, longer, refer-one, visit-grows, afterChildren, children-none, children-next, visit-met, visit-new, child-within, children-within, children-room, child-depth}
-use Rattle.walk.specs.Entries.{size, Entries, kids-length, kid-below, entries-fall}
+use Rattle.walk.specs.Entries.{size, kids-length, kid-below, entries-fall}
 use Rattle.walk.specs.Marks.{countsBelow, marked}
 use Rattle.walk.specs.Steps.{step, withStep}
-use Rattle.walk.specs.Packed.{Held, held, entryAt, stepsFrom, single, finishes, Room, Stands, Fits, visitFrom, Visitable, Ready, Listed, Visited, walkStart, Packing, Begun, Packable, Packed}
+use Rattle.walk.specs.Packed.{Held, held, entryAt, stepsFrom, single, finishes, Room, Stands, Fits, visitFrom, Visitable, Ready, Listed, Visited, walkStart, Begun, Packable, Packed}
 use Rattle.walk.proofs.StepLaws.{before-step, step-more}
 
 -- ---- the own step of an entry

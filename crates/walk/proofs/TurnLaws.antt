@@ -1,6 +1,6 @@
 -- The loop over the children of an entry, as both functions of the packed walk have it: what it keeps, and that a turn keeps it.
 -- It keeps no entry, so what it keeps is said of each entry that could own it: the words hold that walk after the first k children.
-use mathlib.Core.Path.{_≡_, refl, ap, subst, _∙_}
+use mathlib.Core.Path.{_≡_, refl, ap, _∙_}
 use mathlib.Core.Bool.{Bool}
 use mathlib.Core.List.{List}
 use Prim.Native.Nat.{ℕ, _+_, _*_, _-_, _<_, _≤_}
@@ -11,7 +11,7 @@ use Rattle.defs.specs.Table.{word, maxWord, maxChildRefs, entryStmtIn, childSta
 use Rattle.defs.specs.Checked.{HeaderOk}
 use Rattle.defs.specs.Steps.{parentWord, indexWord}
 use Rattle.walk.specs.Marks.{countsBelow, marked}
-use Rattle.walk.specs.Packed.{Held, held, entryAt, single, finishes, Room, Visitable, Ready, Listed, ListedAll, Visited}
+use Rattle.walk.specs.Packed.{Held, entryAt, single, finishes, Room, Visitable, Ready, Listed, ListedAll, Visited}
 use Rattle.walk.specs.Children.{EntryOf, ChildrenOf}
 use Rattle.walk.proofs.StepLaws.{index-next, index-most}
 use Rattle.walk.proofs.PackedLaws.{Child, no-children, child-visitable, next-child, room-last, visited-new, room-single, visited-single}

@@ -1,13 +1,13 @@
 -- The sections that a walk is lent, and what they give as a graph.
-use mathlib.Core.Path.{_≡_, sym, ap, _∙_}
+use mathlib.Core.Path.{_≡_}
 use mathlib.Core.List.{List}
-use Prim.Native.Nat.{ℕ, _+_, _*_, _/_, _≤_, _<_}
+use Prim.Native.Nat.{ℕ, _/_, _<_}
 use native.Mathlib.Omega.{arith}
 use lib.ListN.{length, getD}
 use Rattle.laws.specs.Lists.{part-length, all-getD, below-all}
-use Rattle.defs.specs.Table.{word, maxStatements, statements, entries, entrySize, entryWords, childWords, entryStmtIn, childStartIn, childCountIn, childrenIn}
+use Rattle.defs.specs.Table.{maxStatements, entries, entrySize, entryWords, childWords, entryStmtIn, childStartIn, childCountIn, childrenIn}
 use Rattle.defs.specs.Check.{tableRefusal}
-use Rattle.defs.specs.Graph.{graphIn, graphOf}
+use Rattle.defs.specs.Graph.{graphIn}
 use Rattle.defs.specs.Laws.{good, Falls}
 use Rattle.defs.specs.Checked.{header, entry-ok}
 use Rattle.defs.specs.Sections.{EntriesOk, entries-ok, child-at}

@@ -1,5 +1,5 @@
 -- The walks of a table that is not refused: its sections are what they ask for, and give its lists.
-use mathlib.Core.Path.{_≡_, refl, sym, ap, _∙_}
+use mathlib.Core.Path.{_≡_, refl, ap}
 use mathlib.Core.Bool.{Bool}
 use mathlib.Core.List.{List}
 use Prim.Native.Nat.{ℕ, _+_, _*_, _≤_, _<_}
@@ -8,7 +8,7 @@ use lib.ListN.{length}
 use Rattle.defs.specs.Table.{entries, childRefs, qed, entryWords, childWords}
 use Rattle.defs.specs.Check.{tableRefusal}
 use Rattle.defs.specs.Graph.{graphIn, graphOf}
-use Rattle.defs.specs.Steps.{Step, stepSize, packedSteps, normalSteps}
+use Rattle.defs.specs.Steps.{stepSize, packedSteps, normalSteps}
 use Rattle.defs.specs.Text.{packedOf, normalOf}
 use Rattle.defs.specs.Laws.{good}
 use Rattle.defs.specs.Checked.{sections, qed-below}

@@ -10,7 +10,7 @@ use lib.Dec.{eqb}
 use Rattle.laws.specs.Tools.{pick}
 use Rattle.laws.specs.Lists.{eqb-yes, eqb-no, part-at}
 use Rattle.defs.specs.Bytes.{colon, equalsSign}
-use Rattle.defs.specs.Table.{word, theorem, statements, statementWords, hypWords, labelIn, hypsIn, hypStartIn, hypCountIn, label, hyps}
+use Rattle.defs.specs.Table.{theorem, statements, statementWords, hypWords, labelIn, hypsIn, hypStartIn, hypCountIn, label, hyps}
 use Rattle.defs.specs.Check.{tableRefusal}
 use Rattle.defs.specs.Checked.{theorem-below}
 use Rattle.defs.specs.Sections.{statements-ok, hyps-ok}

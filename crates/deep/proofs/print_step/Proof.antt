@@ -1,14 +1,9 @@
 -- The invariant bounds the place in the step.
 -- With what is required every index lies in the array.
-use Prim.Native.Nat.{_+_, _-_, _≤_}
+use Prim.Native.Nat.{_-_, _≤_}
 use borrow.Author.Needs.{needs}
 use Rattle.deep.proofs.print_step.Statement.{statement}
 use Rattle.deep.proofs.print_step.Tie as tie
-use Rattle.deep.proofs.print_step.Reads as reads
-use Rattle.deep.proofs.print_step.Lts as lts
-use Rattle.deep.proofs.print.Reads as print-reads
-use Rattle.deep.proofs.wide.Reads as wide-reads
-use Rattle.io.proofs.print_decimal.Reads as print-decimal-reads
 
 abbrev Inv-loop : tie.InvT-loop
 Inv-loop out at i₀ t4 i = i ≤ 5
@@ -16,51 +11,39 @@ Inv-loop out at i₀ t4 i = i ≤ 5
 abbrev μ-loop : tie.MeasureT-loop
 μ-loop out at i₀ t4 i = 5 - i
 
--- src/main.rt:53:5
 loop-holds : tie.Need-loop-holds Inv-loop μ-loop
 loop-holds c = search needs
 
--- src/main.rt:54:15
 slice-aggregate-print : tie.Need-slice-aggregate-print Inv-loop μ-loop
 slice-aggregate-print c = search needs
 
--- src/main.rt:54:9
 print-requires : tie.Need-print-requires Inv-loop μ-loop
 print-requires c κs = search needs
 
--- src/main.rt:55:51
 add-wide : tie.Need-add-wide Inv-loop μ-loop
 add-wide c = search needs
 
--- src/main.rt:55:47
 mul-wide : tie.Need-mul-wide Inv-loop μ-loop
 mul-wide c = search needs
 
--- src/main.rt:55:47
 element-copy-out-wide : tie.Need-element-copy-out-wide Inv-loop μ-loop
 element-copy-out-wide c = search needs
 
--- src/main.rt:55:42
 wide-requires : tie.Need-wide-requires Inv-loop μ-loop
 wide-requires c κs = search needs
 
--- src/main.rt:55:9
 print-decimal-requires : tie.Need-print-decimal-requires Inv-loop μ-loop
 print-decimal-requires c κs = search needs
 
--- src/main.rt:56:9
 add-i : tie.Need-add-i Inv-loop μ-loop
 add-i c = search needs
 
--- src/main.rt:53:5
 loop-less : tie.Need-loop-less Inv-loop μ-loop
 loop-less c = search needs
 
--- src/main.rt:53:5
 loop-again : tie.Need-loop-again Inv-loop μ-loop
 loop-again c = search needs
 
--- src/main.rt:49:1
 returns : tie.Need-returns Inv-loop μ-loop
 returns c = search needs
 

@@ -1,11 +1,9 @@
 -- The invariant bounds the entry, so that its words and its reference lie in the array.
 -- What is written needs no contract: the program prints what the walk answers.
-use Prim.Native.Nat.{_+_, _-_, _≤_}
+use Prim.Native.Nat.{_-_, _≤_}
 use borrow.Author.Needs.{needs}
 use Rattle.deep.proofs.put_chain.Statement.{statement}
 use Rattle.deep.proofs.put_chain.Tie as tie
-use Rattle.deep.proofs.put_chain.Reads as reads
-use Rattle.deep.proofs.put_chain.Lts as lts
 
 abbrev Inv-loop : tie.InvT-loop
 Inv-loop words₀ e₀ words e = (1 ≤ e) × (e ≤ 8192)
@@ -13,95 +11,72 @@ Inv-loop words₀ e₀ words e = (1 ≤ e) × (e ≤ 8192)
 abbrev μ-loop : tie.MeasureT-loop
 μ-loop words₀ e₀ words e = 8192 - e
 
--- src/main.rt:38:5
 loop-holds : tie.Need-loop-holds Inv-loop μ-loop
 loop-holds c = search needs
 
--- src/main.rt:39:36
 cast-at : tie.Need-cast-at Inv-loop μ-loop
 cast-at c = search needs
 
--- src/main.rt:39:32
 mul-at : tie.Need-mul-at Inv-loop μ-loop
 mul-at c = search needs
 
--- src/main.rt:39:18
 add-at : tie.Need-add-at Inv-loop μ-loop
 add-at c = search needs
 
--- src/main.rt:40:35
 cast-child : tie.Need-cast-child Inv-loop μ-loop
 cast-child c = search needs
 
--- src/main.rt:40:21
 add-child : tie.Need-add-child Inv-loop μ-loop
 add-child c = search needs
 
--- src/main.rt:40:21
 sub-child : tie.Need-sub-child Inv-loop μ-loop
 sub-child c = search needs
 
--- src/main.rt:41:9
 mul-words : tie.Need-mul-words Inv-loop μ-loop
 mul-words c = search needs
 
--- src/main.rt:41:9
 element-write-words : tie.Need-element-write-words Inv-loop μ-loop
 element-write-words c = search needs
 
--- src/main.rt:42:25
 sub-words : tie.Need-sub-words Inv-loop μ-loop
 sub-words c = search needs
 
--- src/main.rt:42:15
 add-words : tie.Need-add-words Inv-loop μ-loop
 add-words c = search needs
 
--- src/main.rt:42:9
 mul-words-2 : tie.Need-mul-words-2 Inv-loop μ-loop
 mul-words-2 c = search needs
 
--- src/main.rt:42:9
 element-write-words-2 : tie.Need-element-write-words-2 Inv-loop μ-loop
 element-write-words-2 c = search needs
 
--- src/main.rt:43:15
 add-words-2 : tie.Need-add-words-2 Inv-loop μ-loop
 add-words-2 c = search needs
 
--- src/main.rt:43:9
 mul-words-3 : tie.Need-mul-words-3 Inv-loop μ-loop
 mul-words-3 c = search needs
 
--- src/main.rt:43:9
 element-write-words-3 : tie.Need-element-write-words-3 Inv-loop μ-loop
 element-write-words-3 c = search needs
 
--- src/main.rt:44:24
 sub-words-2 : tie.Need-sub-words-2 Inv-loop μ-loop
 sub-words-2 c = search needs
 
--- src/main.rt:44:9
 mul-words-4 : tie.Need-mul-words-4 Inv-loop μ-loop
 mul-words-4 c = search needs
 
--- src/main.rt:44:9
 element-write-words-4 : tie.Need-element-write-words-4 Inv-loop μ-loop
 element-write-words-4 c = search needs
 
--- src/main.rt:45:9
 add-e : tie.Need-add-e Inv-loop μ-loop
 add-e c = search needs
 
--- src/main.rt:38:5
 loop-less : tie.Need-loop-less Inv-loop μ-loop
 loop-less c = search needs
 
--- src/main.rt:38:5
 loop-again : tie.Need-loop-again Inv-loop μ-loop
 loop-again c = search needs
 
--- src/main.rt:36:1
 returns : tie.Need-returns Inv-loop μ-loop
 returns c = search needs
 

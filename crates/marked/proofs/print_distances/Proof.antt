@@ -1,13 +1,9 @@
+-- `print_distances` ends, since each turn is one distance nearer to the count, and reads within its slice.
+-- What a program prints is beyond its contracts. Assumes nothing.
 use Prim.Native.Nat.{_≤_, _-_}
 use borrow.Author.Needs.{needs}
-use native.Mathlib.Omega.{arith}
 use Rattle.marked.proofs.print_distances.Statement.{statement}
 use Rattle.marked.proofs.print_distances.Tie as tie
-use Rattle.marked.proofs.print_distances.Reads as reads
-use Rattle.marked.proofs.print_distances.Lts as lts
-use Rattle.io.proofs.print_decimal.Reads as print-decimal-reads
-use Rattle.marked.proofs.print.Reads as print-reads
-use Rattle.marked.proofs.wide_distance.Reads as wide-distance-reads
 
 abbrev Inv-loop : tie.InvT-loop
 Inv-loop distances count i₀ t4 t5 i = i ≤ count
@@ -15,55 +11,42 @@ Inv-loop distances count i₀ t4 t5 i = i ≤ count
 abbrev μ-loop : tie.MeasureT-loop
 μ-loop distances count i₀ t4 t5 i = count - i
 
--- src/main.rt:53:5
 loop-holds : tie.Need-loop-holds Inv-loop μ-loop
 loop-holds c = search needs
 
--- src/main.rt:55:19
 slice-aggregate-print : tie.Need-slice-aggregate-print Inv-loop μ-loop
 slice-aggregate-print c = search needs
 
--- src/main.rt:55:13
 print-requires : tie.Need-print-requires Inv-loop μ-loop
 print-requires c κs = search needs
 
--- src/main.rt:56:60
 mul-wide-distance : tie.Need-mul-wide-distance Inv-loop μ-loop
 mul-wide-distance c = search needs
 
--- src/main.rt:56:60
 shared-slice-read-wide-distance : tie.Need-shared-slice-read-wide-distance Inv-loop μ-loop
 shared-slice-read-wide-distance c = search needs
 
--- src/main.rt:56:46
 wide-distance-requires : tie.Need-wide-distance-requires Inv-loop μ-loop
 wide-distance-requires c κs = search needs
 
--- src/main.rt:56:13
 print-decimal-requires : tie.Need-print-decimal-requires Inv-loop μ-loop
 print-decimal-requires c κs = search needs
 
--- src/main.rt:58:9
 add-i : tie.Need-add-i Inv-loop μ-loop
 add-i c = search needs
 
--- src/main.rt:53:5
 loop-less : tie.Need-loop-less Inv-loop μ-loop
 loop-less c = search needs
 
--- src/main.rt:53:5
 loop-again : tie.Need-loop-again Inv-loop μ-loop
 loop-again c = search needs
 
--- src/main.rt:60:11
 slice-aggregate-print-2 : tie.Need-slice-aggregate-print-2 Inv-loop μ-loop
 slice-aggregate-print-2 c = search needs
 
--- src/main.rt:60:5
 print-requires-2 : tie.Need-print-requires-2 Inv-loop μ-loop
 print-requires-2 c κs = search needs
 
--- src/main.rt:51:1
 returns : tie.Need-returns Inv-loop μ-loop
 returns c = search needs
 

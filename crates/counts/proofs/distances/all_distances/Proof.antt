@@ -3,7 +3,7 @@
 use mathlib.Core.Path.{subst, _≡_, refl, sym, _∙_}
 use Prim.Native.Nat.{ℕ, _≤_}
 use native.Mathlib.Omega.{arith}
-use lib.ListN.{length, set, length-set}
+use lib.ListN.{length, length-set}
 use Rattle.defs.specs.Sections.{EntriesOk}
 use Rattle.defs.specs.Table.{maxEntries}
 use Rattle.defs.specs.Counts.{descend}

@@ -18,39 +18,30 @@ Inv-loop statements list i₀ i = (i ≤ length list) × (any (λ k. eqb (kindIn
 abbrev μ-loop : tie.MeasureT-loop
 μ-loop statements list i₀ i = length list - i
 
--- src/refusals.rt:18:5
 loop-holds : tie.Need-loop-holds Inv-loop μ-loop
 loop-holds c = (omega arith, refl)
 
--- src/refusals.rt:19:41
 mul-t4 : tie.Need-mul-t4 Inv-loop μ-loop
 mul-t4 c = omega arith
 
--- src/refusals.rt:19:41
 shared-slice-read-t8 : tie.Need-shared-slice-read-t8 Inv-loop μ-loop
 shared-slice-read-t8 c = omega arith
 
--- src/refusals.rt:19:12
 kind-requires : tie.Need-kind-requires Inv-loop μ-loop
 kind-requires c κs = c .before .before .before .before .before .pre .inside _ (c .before .loop-test .taken)
 
--- src/refusals.rt:20:13
 returns : tie.Need-returns Inv-loop μ-loop
 returns c = sym (any-hit (λ k. eqb (kindIn (c .before .before .before .before .before .before .before .args .statements .now) k) 2) (c .before .before .before .before .before .before .before .args .list .now) (c .before .before .before .before .loop .i) (c .before .before .before .loop-test .taken) (ap (λ (x : ℕ). eqb x 2) (sym (c .before .kind .ensures)) ∙ eqb-yes (c .before .kind .result) 2 (omega (arith, c .if1 .taken)))) ∙ c .before .before .before .before .loop .inv .1
 
--- src/refusals.rt:22:9
 add-i : tie.Need-add-i Inv-loop μ-loop
 add-i c = omega arith
 
--- src/refusals.rt:18:5
 loop-less : tie.Need-loop-less Inv-loop μ-loop
 loop-less c = omega arith
 
--- src/refusals.rt:18:5
 loop-again : tie.Need-loop-again Inv-loop μ-loop
 loop-again c = (omega arith, sym (any-miss (λ k. eqb (kindIn (c .before .before .before .before .before .before .before .args .statements .now) k) 2) (c .before .before .before .before .before .before .before .args .list .now) (c .before .before .before .before .loop .i) (c .before .before .before .loop-test .taken) (ap (λ (x : ℕ). eqb x 2) (sym (c .before .kind .ensures)) ∙ eqb-no (c .before .kind .result) 2 (λ e. omega (arith, c .if1 .left)))) ∙ c .before .before .before .before .loop .inv .1)
 
--- src/refusals.rt:13:1
 returns-2 : tie.Need-returns-2 Inv-loop μ-loop
 returns-2 c = sym (any-end (λ k. eqb (kindIn (c .before .before .before .before .args .statements .now) k) 2) (c .before .before .before .before .args .list .now) (c .before .loop .i) (c .loop-test .left)) ∙ c .before .loop .inv .1
 

@@ -18,39 +18,30 @@ Inv-loop statements list most i₀ i = (i ≤ length list) × (any (λ k. ltb mo
 abbrev μ-loop : tie.MeasureT-loop
 μ-loop statements list most i₀ i = length list - i
 
--- src/refusals.rt:33:5
 loop-holds : tie.Need-loop-holds Inv-loop μ-loop
 loop-holds c = (omega arith, refl)
 
--- src/refusals.rt:34:56
 mul-t7 : tie.Need-mul-t7 Inv-loop μ-loop
 mul-t7 c = omega arith
 
--- src/refusals.rt:34:56
 shared-slice-read-t9 : tie.Need-shared-slice-read-t9 Inv-loop μ-loop
 shared-slice-read-t9 c = omega arith
 
--- src/refusals.rt:34:19
 label-length-requires : tie.Need-label-length-requires Inv-loop μ-loop
 label-length-requires c κs = c .before .before .before .before .before .pre .inside _ (c .before .loop-test .taken)
 
--- src/refusals.rt:35:13
 returns : tie.Need-returns Inv-loop μ-loop
 returns c = sym (any-hit (λ k. ltb (c .before .before .before .before .before .before .before .args .most) (labelLengthIn (c .before .before .before .before .before .before .before .args .statements .now) k)) (c .before .before .before .before .before .before .before .args .list .now) (c .before .before .before .before .loop .i) (c .before .before .before .loop-test .taken) (ap (ltb (c .before .before .before .before .before .before .before .args .most)) (sym (c .before .label-length .ensures)) ∙ lt-ltb (c .before .before .before .before .before .before .before .args .most) (c .before .label-length .result) (omega (arith, c .if1 .taken)))) ∙ c .before .before .before .before .loop .inv .1
 
--- src/refusals.rt:37:9
 add-i : tie.Need-add-i Inv-loop μ-loop
 add-i c = omega arith
 
--- src/refusals.rt:33:5
 loop-less : tie.Need-loop-less Inv-loop μ-loop
 loop-less c = omega arith
 
--- src/refusals.rt:33:5
 loop-again : tie.Need-loop-again Inv-loop μ-loop
 loop-again c = (omega arith, sym (any-miss (λ k. ltb (c .before .before .before .before .before .before .before .args .most) (labelLengthIn (c .before .before .before .before .before .before .before .args .statements .now) k)) (c .before .before .before .before .before .before .before .args .list .now) (c .before .before .before .before .loop .i) (c .before .before .before .loop-test .taken) (ap (ltb (c .before .before .before .before .before .before .before .args .most)) (sym (c .before .label-length .ensures)) ∙ le-ltb (c .before .before .before .before .before .before .before .args .most) (c .before .label-length .result) (omega (arith, c .if1 .left)))) ∙ c .before .before .before .before .loop .inv .1)
 
--- src/refusals.rt:28:1
 returns-2 : tie.Need-returns-2 Inv-loop μ-loop
 returns-2 c = sym (any-end (λ k. ltb (c .before .before .before .before .args .most) (labelLengthIn (c .before .before .before .before .args .statements .now) k)) (c .before .before .before .before .args .list .now) (c .before .loop .i) (c .loop-test .left)) ∙ c .before .loop .inv .1
 

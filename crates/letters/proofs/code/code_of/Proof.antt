@@ -1,4 +1,5 @@
 -- `code_of` meets its contract: the letters are put at the end of an array that has room for those of any number of 32 bits.
+-- Assumes nothing.
 use native.Mathlib.Omega.{arith}
 use borrow.Author.Needs.{needs}
 use Rattle.laws.specs.Puts.{placed-last}

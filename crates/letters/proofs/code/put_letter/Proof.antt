@@ -1,4 +1,5 @@
 -- `put_letter` meets its contract: one store where it fits, none where it does not.
+-- Assumes nothing.
 use mathlib.Core.Path.{refl}
 use native.Mathlib.Omega.{arith}
 use borrow.Author.Needs.{needs}

@@ -8,35 +8,25 @@ use Rattle.listing.proofs.ClearLaws.{cleared}
 use borrow.Author.Needs.{needs}
 use Rattle.listing.proofs.clear.clear.Statement.{statement}
 use Rattle.listing.proofs.clear.clear.Tie as tie
-use Rattle.listing.proofs.clear.clear.Reads as reads
-use Rattle.listing.proofs.clear.clear.Lts as lts
-use Rattle.slices.proofs.fill.fill.Reads as fill-reads
 
--- src/clear.rt:9:10
 mul-fill : tie.Need-mul-fill
 mul-fill c = search needs
 
--- src/clear.rt:9:10
 sub-fill : tie.Need-sub-fill
 sub-fill c = search needs
 
--- src/clear.rt:9:10
 part-fill-start : tie.Need-part-fill-start
 part-fill-start c = search needs
 
--- src/clear.rt:9:10
 part-fill-end : tie.Need-part-fill-end
 part-fill-end c = search needs
 
--- src/clear.rt:9:5
 fill-requires : tie.Need-fill-requires
 fill-requires c κs = search needs
 
--- src/clear.rt:5:1
 same-length : tie.Need-same-length
 same-length c = search needs
 
--- src/clear.rt:5:1
 returns : tie.Need-returns
 returns c =
     let s = c .before .before .before .before .before in

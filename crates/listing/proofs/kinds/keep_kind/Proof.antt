@@ -1,11 +1,10 @@
+-- `keep_kind` meets its contract. The invariant: of the first i statements those that are wanted are kept, in order.
+-- They go behind the list that is read, so it stays as it was. Assumes nothing.
 use Prim.Native.Nat.{_-_}
 use native.Mathlib.Omega.{arith}
 use Rattle.listing.proofs.KindLaws.{KeptTo, none-kept, all-kept, turn-kept, one-ready}
 use Rattle.listing.proofs.kinds.keep_kind.Statement.{statement}
 use Rattle.listing.proofs.kinds.keep_kind.Tie as tie
-use Rattle.listing.proofs.kinds.keep_kind.Reads as reads
-use Rattle.listing.proofs.kinds.keep_kind.Lts as lts
-use Rattle.listing.proofs.kinds.keep_one.Reads as keep-one-reads
 
 abbrev Inv-loop : tie.InvT-loop
 Inv-loop statements work₀ at many to assertions end₀ i₀ work end i = KeptTo statements assertions at many to i end work₀ work
@@ -13,35 +12,27 @@ Inv-loop statements work₀ at many to assertions end₀ i₀ work end i = KeptT
 abbrev μ-loop : tie.MeasureT-loop
 μ-loop statements work₀ at many to assertions end₀ i₀ work end i = many - i
 
--- src/kinds.rt:56:5
 loop-holds : tie.Need-loop-holds Inv-loop μ-loop
 loop-holds c = none-kept _ _ _ _ _ _
 
--- src/kinds.rt:57:42
 add-keep-one : tie.Need-add-keep-one Inv-loop μ-loop
 add-keep-one c = omega arith
 
--- src/kinds.rt:57:9
 keep-one-requires : tie.Need-keep-one-requires Inv-loop μ-loop
 keep-one-requires c κs = one-ready _ _ _ _ _ _ _ _ _ (c .before .before .before .before .before .pre) (c .before .before .loop .inv) (c .before .loop-test .taken)
 
--- src/kinds.rt:58:9
 add-i : tie.Need-add-i Inv-loop μ-loop
 add-i c = omega arith
 
--- src/kinds.rt:56:5
 loop-less : tie.Need-loop-less Inv-loop μ-loop
 loop-less c = omega arith
 
--- src/kinds.rt:56:5
 loop-again : tie.Need-loop-again Inv-loop μ-loop
 loop-again c = turn-kept _ _ _ _ _ _ _ _ _ (c .before .before .before .before .before .loop .inv) (c .before .before .before .before .loop-test .taken) (c .before .before .before .before .before .before .before .before .pre .apart) (c .before .before .before .before .before .before .before .before .pre .room) _ _ (c .before .before .keep-one .ensures)
 
--- src/kinds.rt:43:1
 same-length : tie.Need-same-length Inv-loop μ-loop
 same-length c = c .before .loop .inv .same-length
 
--- src/kinds.rt:43:1
 returns : tie.Need-returns Inv-loop μ-loop
 returns c = all-kept _ _ _ _ _ _ _ _ _ (omega arith) (c .before .loop .inv)
 

@@ -1,45 +1,35 @@
+-- `keep_one` meets its contract: a statement that is wanted goes to the end, which is then one further.
+-- Any other changes nothing. Assumes nothing.
 use mathlib.Core.Path.{refl, sym, _∙_}
 use Rattle.laws.specs.Lists.{clash}
 use borrow.Author.Needs.{needs}
 use Rattle.listing.proofs.kinds.keep_one.Statement.{statement}
 use Rattle.listing.proofs.kinds.keep_one.Tie as tie
-use Rattle.listing.proofs.kinds.keep_one.Reads as reads
-use Rattle.listing.proofs.kinds.keep_one.Lts as lts
-use Rattle.listing.proofs.kinds.wants.Reads as wants-reads
 
--- src/kinds.rt:34:13
 mul-k : tie.Need-mul-k
 mul-k c = search needs
 
--- src/kinds.rt:34:13
 slice-read-k : tie.Need-slice-read-k
 slice-read-k c = search needs
 
--- src/kinds.rt:35:8
 wants-requires : tie.Need-wants-requires
 wants-requires c κs = search needs
 
--- src/kinds.rt:36:9
 mul-work : tie.Need-mul-work
 mul-work c = search needs
 
--- src/kinds.rt:36:9
 slice-write-work : tie.Need-slice-write-work
 slice-write-work c = search needs
 
--- src/kinds.rt:37:16
 add-result : tie.Need-add-result
 add-result c = search needs
 
--- src/kinds.rt:37:9
 same-length : tie.Need-same-length
 same-length c = search needs
 
--- src/kinds.rt:37:9
 returns : tie.Need-returns
 returns c = record { left-out = λ h. clash _ (sym (c .before .wants .ensures) ∙ c .if1 .taken) h; taken = λ h. (refl, refl) }
 
--- src/kinds.rt:24:1
 returns-2 : tie.Need-returns-2
 returns-2 c = record { left-out = λ h. (refl, refl); taken = λ h. clash _ h (sym (c .before .wants .ensures) ∙ c .if1 .left) }
 

@@ -1,50 +1,38 @@
+-- `use_step` meets its contract: a reference changes nothing.
+-- A normal step is what `use_statement` makes of its statement. Assumes nothing.
 use native.Mathlib.Omega.{arith}
 use mathlib.Core.Path.{refl}
 use borrow.Author.Needs.{needs}
 use Rattle.listing.proofs.uses.use_step.Statement.{statement}
 use Rattle.listing.proofs.uses.use_step.Tie as tie
-use Rattle.listing.proofs.uses.use_step.Reads as reads
-use Rattle.listing.proofs.uses.use_step.Lts as lts
-use Rattle.listing.proofs.uses.use_statement.Reads as use-statement-reads
-use Rattle.table.proofs.numbers.wide.Reads as wide-reads
 
--- src/uses.rt:32:8
 mul-if1 : tie.Need-mul-if1
 mul-if1 c = search needs
 
--- src/uses.rt:32:8
 slice-read-if1 : tie.Need-slice-read-if1
 slice-read-if1 c = search needs
 
--- src/uses.rt:33:9
 returns : tie.Need-returns
 returns c = record { reference = λ h. (refl, refl); normal = λ h. absurd (omega (arith, c .if1 .taken)) }
 
--- src/uses.rt:35:31
 add-wide : tie.Need-add-wide
 add-wide c = search needs
 
--- src/uses.rt:35:26
 mul-wide : tie.Need-mul-wide
 mul-wide c = search needs
 
--- src/uses.rt:35:26
 slice-read-wide : tie.Need-slice-read-wide
 slice-read-wide c = search needs
 
--- src/uses.rt:35:9
 wide-requires : tie.Need-wide-requires
 wide-requires c κs = search needs
 
--- src/uses.rt:36:5
 use-statement-requires : tie.Need-use-statement-requires
 use-statement-requires c κs = rw (c .before .wide .ensures) (c .before .before .before .before .before .before .pre .ready (omega (arith, c .before .before .before .if1 .left)))
 
--- src/uses.rt:28:1
 same-length : tie.Need-same-length
 same-length c = search needs
 
--- src/uses.rt:28:1
 returns-2 : tie.Need-returns-2
 returns-2 c = record { reference = λ h. absurd (h (omega (arith, c .before .before .before .before .before .before .if1 .left))); normal = λ h. rw (c .before .before .before .before .wide .ensures) at (c .before .before .use-statement .ensures) }
 

@@ -5,15 +5,12 @@ use borrow.Author.Needs.{needs}
 use Rattle.lists.proofs.answers.ended.Statement.{statement}
 use Rattle.lists.proofs.answers.ended.Tie as tie
 
--- src/answers.rt:18:5
 fill-requires : tie.Need-fill-requires
 fill-requires c κs = search needs
 
--- src/answers.rt:15:1
 same-length : tie.Need-same-length
 same-length c = search needs
 
--- src/answers.rt:15:1
 returns : tie.Need-returns
 returns c = ((refl, refl), c .before .before .fill .ensures)
 

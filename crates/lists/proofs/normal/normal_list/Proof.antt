@@ -1,9 +1,9 @@
 -- `normal_list` meets its contract: each return is one law of AnswerLaws, at the test that it stands under.
 -- The counted steps are the length of the list where they are few enough (`few`, `long`).
-use mathlib.Core.Path.{_≡_, refl, sym, ap, _∙_}
-use mathlib.Core.Bool.{Bool, false}
+use mathlib.Core.Path.{_≡_, sym, ap, _∙_}
+use mathlib.Core.Bool.{false}
 use mathlib.Core.List.{List}
-use Prim.Native.Nat.{ℕ, _+_, _*_, _≤_, _<_}
+use Prim.Native.Nat.{ℕ, _*_, _≤_}
 use native.Mathlib.Omega.{arith}
 use lib.ListN.{length, replicate}
 use Rattle.laws.specs.Tools.{zeroed, over}
@@ -18,18 +18,6 @@ use Rattle.lists.proofs.ListLaws.{may-count, may-list, list-is, are-man
 use borrow.Author.Needs.{needs}
 use Rattle.lists.proofs.normal.normal_list.Statement.{statement}
 use Rattle.lists.proofs.normal.normal_list.Tie as tie
-use Rattle.lists.proofs.normal.normal_list.Reads as reads
-use Rattle.lists.proofs.normal.normal_list.Lts as lts
-use Rattle.lists.proofs.answers.ended.Reads as ended-reads
-use Rattle.lists.proofs.answers.refused.Reads as refused-reads
-use Rattle.lists.proofs.normal.count_steps.Reads as count-steps-reads
-use Rattle.lists.proofs.normal.write_normal.Reads as write-normal-reads
-use Rattle.table.proofs.header.read_header.Reads as read-header-reads
-use Rattle.table.proofs.numbers.wide.Reads as wide-reads
-use Rattle.table.proofs.sections.child_section.Reads as child-section-reads
-use Rattle.table.proofs.sections.entry_section.Reads as entry-section-reads
-use Rattle.table_check.proofs.check.Reads as check-reads
-use Rattle.walk.proofs.room.working_words.Reads as working-words-reads
 
 -- past the check the table is good
 good : (c : tie.Else1) → tableRefusal (c .before .before .before .before .before .before .args .words .now) (c .before .before .before .before .before .before .args .labels .now) ≡ 0
@@ -56,88 +44,68 @@ long c =
 wiped : (c : tie.After-count-steps) (end : List ℕ) → end ≡ replicate (length (c .count-steps .last .1 .1 .1 .1 .0)) 0 → end ≡ zeroed (c .before .before .before .before .before .before .before .before .before .before .before .before .before .before .args .work .now)
 wiped c end is = is ∙ ap (λ (n : ℕ). replicate n 0) (c .count-steps .kept .1 .1 .1 .1 .0)
 
--- src/normal.rt:90:9
 check-requires : tie.Need-check-requires
 check-requires c κs = search needs
 
--- src/normal.rt:92:9
 refused-requires : tie.Need-refused-requires
 refused-requires c κs = search needs
 
--- src/normal.rt:92:9
 returns : tie.Need-returns
 returns c = table-refused _ _ _ _ _ _ _ _ (c .refused .ensures .0 ∙ c .before .before .check .ensures) (λ z. c .before .if1 .taken (c .before .before .check .ensures ∙ z)) (c .refused .ensures .1)
 
--- src/normal.rt:94:21
 working-words-requires : tie.Need-working-words-requires
 working-words-requires c κs = right c
 
--- src/normal.rt:95:9
 refused-requires-2 : tie.Need-refused-requires-2
 refused-requires-2 c κs = search needs
 
--- src/normal.rt:95:9
 returns-2 : tie.Need-returns-2
 returns-2 c = work-short _ _ _ _ _ _ (good (c .before .before .before)) _ _ (c .refused2 .ensures .0) (c .refused2 .ensures .1) (omega (arith, c .before .before .working-words .ensures, c .before .if2 .taken))
 
--- src/normal.rt:97:9
 read-header-requires : tie.Need-read-header-requires
 read-header-requires c κs = right (c .before .before) .ten
 
--- src/normal.rt:98:9
 entry-section-requires : tie.Need-entry-section-requires
 entry-section-requires c κs = right (c .before .before .before)
 
--- src/normal.rt:99:9
 child-section-requires : tie.Need-child-section-requires
 child-section-requires c κs = right (c .before .before .before .before)
 
--- src/normal.rt:100:48
 wide-requires : tie.Need-wide-requires
 wide-requires c κs = search needs
 
--- src/normal.rt:100:9
 count-steps-requires : tie.Need-count-steps-requires
 count-steps-requires c κs = may-count _ _ (good (c .before .before .before .before .before .before .before)) _ _ _ (c .before .before .before .entry-section .ensures) (c .before .before .child-section .ensures) (c .before .before .before .before .read-header .ensures .qed-is) _ _ (c .before .wide .ensures ∙ c .before .before .before .before .read-header .ensures .entries-is) (enough (c .before .before .before .before .before))
 
--- src/normal.rt:102:9
 ended-requires : tie.Need-ended-requires
 ended-requires c κs = search needs
 
--- src/normal.rt:102:9
 same-length : tie.Need-same-length
 same-length c = search needs
 
--- src/normal.rt:102:9
 returns-3 : tie.Need-returns-3
 returns-3 c =
     let x = c .before .before .before .before .before .before .before in
     too-many _ _ _ _ _ _ (good (x .before .before .before .before .before .before .before .before)) (enough (x .before .before .before .before .before .before)) _ _ _ (c .before .before .ended .ensures .0 .0) (c .before .before .ended .ensures .0 .1) (wiped x _ (c .before .before .ended .ensures .1))
     (are-many _ _ (good (x .before .before .before .before .before .before .before .before)) _ _ _ (x .before .before .before .before .entry-section .ensures) (x .before .before .before .child-section .ensures) (x .before .before .before .before .before .read-header .ensures .qed-is) _ (x .count-steps .ensures) (omega (arith, c .before .before .before .before .if3 .taken)))
 
--- src/normal.rt:104:31
 wide-requires-2 : tie.Need-wide-requires-2
 wide-requires-2 c κs = search needs
 
--- src/normal.rt:104:18
 mul-length : tie.Need-mul-length
 mul-length c = search needs
 
--- src/normal.rt:106:9
 ended-requires-2 : tie.Need-ended-requires-2
 ended-requires-2 c κs = search needs
 
--- src/normal.rt:106:9
 same-length-2 : tie.Need-same-length-2
 same-length-2 c = search needs
 
--- src/normal.rt:106:9
 returns-4 : tie.Need-returns-4
 returns-4 c =
     let x = c .before .before .before .before .before .before .before .before .before in
     no-room _ _ _ _ _ _ (good (x .before .before .before .before .before .before .before .before)) (enough (x .before .before .before .before .before .before)) (few (c .before .before .before .before .before .before)) _ _ _ (c .before .before .ended2 .ensures .0 .0) (c .before .before .ended2 .ensures .0 .1) (wiped x _ (c .before .before .ended2 .ensures .1)) (omega (arith, long (c .before .before .before .before .before), c .before .before .before .before .if4 .taken))
 
--- src/normal.rt:108:5
 write-normal-requires : tie.Need-write-normal-requires
 write-normal-requires c κs =
     let x = c .before .before .before .before .before .before .before in
@@ -145,19 +113,15 @@ write-normal-requires c κs =
     let may = may-list _ _ (good (x .before .before .before .before .before .before .before .before)) _ _ _ (x .before .before .before .before .entry-section .ensures) (x .before .before .before .child-section .ensures) (x .before .before .before .before .before .read-header .ensures .qed-is) (length (x .count-steps .last .1 .1 .1 .1 .0)) (omega (arith, enough (x .before .before .before .before .before .before), x .count-steps .kept .1 .1 .1 .1 .0)) in
     (may .0, (may .1, rw list (omega (arith, long (c .before .before .before), c .before .before .if4 .left))))
 
--- src/normal.rt:109:5
 ended-requires-3 : tie.Need-ended-requires-3
 ended-requires-3 c κs = search needs
 
--- src/normal.rt:80:1
 same-length-3 : tie.Need-same-length-3
 same-length-3 c = search needs
 
--- src/normal.rt:80:1
 same-length-4 : tie.Need-same-length-4
 same-length-4 c = search needs
 
--- src/normal.rt:80:1
 returns-5 : tie.Need-returns-5
 returns-5 c =
     let x = c .before .before .before .before .before .before .before .before .before .before .before .before .before .before .before .before in

@@ -1,8 +1,8 @@
 -- The invariant `Listing`: some steps stand at the front of the output, and the stack has the rest to come.
 -- A turn takes the next step; when none is left the output holds all.
-use mathlib.Core.Path.{_≡_, refl, sym, ap, _∙_}
-use mathlib.Core.List.{List, []}
-use Prim.Native.Nat.{ℕ, _+_, _-_, _≤_}
+use mathlib.Core.Path.{_≡_, refl, ap, _∙_}
+use mathlib.Core.List.{List}
+use Prim.Native.Nat.{_-_, _≤_}
 use native.Mathlib.Omega.{arith}
 use lib.ListN.{length}
 use Rattle.laws.specs.Tools.{over}
@@ -12,12 +12,6 @@ use Rattle.walk.specs.Normal.{left, Stepped, came-step, came-end}
 use Rattle.lists.proofs.ListLaws.{Listing, fits, listed-more, all-listed, begin-listing}
 use Rattle.lists.proofs.normal.write_normal.Statement.{statement}
 use Rattle.lists.proofs.normal.write_normal.Tie as tie
-use Rattle.lists.proofs.normal.write_normal.Reads as reads
-use Rattle.lists.proofs.normal.write_normal.Lts as lts
-use Rattle.walk.proofs.hyps.hyp_words.Reads as hyp-words-reads
-use Rattle.walk.proofs.normal.begin.Reads as begin-reads
-use Rattle.walk.proofs.normal.next.Reads as next-reads
-use Rattle.walk.proofs.steps.put_step.Reads as put-step-reads
 
 -- all the steps are those to come where the loop begins
 abbrev Inv-loop : tie.InvT-loop
@@ -48,66 +42,53 @@ stepped : (c : tie.After-known-told Inv-loop μ-loop)
     (c .before .before .before .before .before .next .last .1 .1 .0) (c .before .taken .given .0 .0 .0) (c .before .taken .given .0 .1 .0) (c .before .taken .given .0 .1 .1 .0)
 stepped c = came-step _ _ _ _ _ _ _ _ _ (c .before .before .before .before .before .next .ensures) (c .before .taken .given .1)
 
--- src/normal.rt:60:5
 begin-requires : tie.Need-begin-requires Inv-loop μ-loop
 begin-requires c κs = (c .before .before .before .before .before .pre .0, c .before .before .before .before .before .pre .1 .0)
 
--- src/normal.rt:63:5
 loop-holds : tie.Need-loop-holds Inv-loop μ-loop
 loop-holds c = (begin-listing _ _ _ _ _ (c .before .before .begin .ensures .stacked), (refl, refl))
 
--- src/normal.rt:64:13
 next-requires : tie.Need-next-requires Inv-loop μ-loop
 next-requires c κs = (c .before .before .before .before .before .before .before .before .before .before .pre .0, c .before .loop .inv .0 .stacked)
 
--- src/normal.rt:66:13
 enum-known-taken : tie.Need-enum-known-taken Inv-loop μ-loop
 enum-known-taken c = c .match .keys1
 
--- src/normal.rt:70:13
 enum-told : tie.Need-enum-told Inv-loop μ-loop
 enum-told c = c .match .keys2
 
--- src/normal.rt:70:13
 same-length : tie.Need-same-length Inv-loop μ-loop
 same-length c = c .before .before .before .before .next .kept .1 .1 .0 ∙ c .before .before .before .before .before .before .loop .inv .1 .0 ∙ c .before .before .before .before .before .before .before .before .before .begin .kept .1 .1 .0
 
--- src/normal.rt:70:13
 same-length-2 : tie.Need-same-length-2 Inv-loop μ-loop
 same-length-2 c = c .before .before .before .before .before .before .loop .inv .1 .1
 
--- src/normal.rt:70:13
 returns : tie.Need-returns Inv-loop μ-loop
 returns c =
     let p = c .before .before .before .before .before .before in
     all-listed _ _ _ _ _ _ _ _ _ (p .loop .inv .0) (came-end _ _ _ _ _ _ (c .before .before .before .before .next .ensures) (c .enum-told .given .1)) ∙ ap (λ (l : List Step). over (flat l) (p .before .before .before .before .before .before .before .before .before .args .out .now)) (normal p)
 
--- src/normal.rt:73:21
 hyp-words-requires : tie.Need-hyp-words-requires Inv-loop μ-loop
 hyp-words-requires c κs = omega (arith, stepped c .parent-few)
 
--- src/normal.rt:74:9
 put-step-requires : tie.Need-put-step-requires Inv-loop μ-loop
 put-step-requires c κs =
     let t = c .before .before in
     let p = t .before .before .before .before .before .before .before in
     omega (arith, fits _ _ _ _ _ _ _ _ _ (p .loop .inv .0) _ _ _ _ (stepped t), room p, p .loop .inv .1 .1)
 
--- src/normal.rt:75:9
 add-at : tie.Need-add-at Inv-loop μ-loop
 add-at c =
     let t = c .before .before .before .before .before in
     let p = t .before .before .before .before .before .before .before in
     omega (arith, fits _ _ _ _ _ _ _ _ _ (p .loop .inv .0) _ _ _ _ (stepped t), room p, p .before .before .before .before .before .before .before .before .before .good)
 
--- src/normal.rt:63:5
 loop-less : tie.Need-loop-less Inv-loop μ-loop
 loop-less c =
     let t = c .before .before .before .before .before in
     let p = t .before .before .before .before .before .before .before in
     omega (arith, fits _ _ _ _ _ _ _ _ _ (p .loop .inv .0) _ _ _ _ (stepped t))
 
--- src/normal.rt:63:5
 loop-again : tie.Need-loop-again Inv-loop μ-loop
 loop-again c =
     let t = c .before .before .before .before .before in

@@ -2,7 +2,7 @@
 -- What the walk left in the working slice, `packed`, is named once, and the later answers read it.
 use mathlib.Core.Path.{_≡_, refl, sym, ap, _∙_}
 use mathlib.Core.List.{List}
-use Prim.Native.Nat.{ℕ, _+_, _-_, _≤_, _<_}
+use Prim.Native.Nat.{ℕ, _+_, _≤_}
 use native.Mathlib.Omega.{arith}
 use lib.ListN.{length, replicate}
 use Rattle.laws.specs.Tools.{zeroed}
@@ -16,16 +16,6 @@ use Rattle.lists.proofs.ListLaws.{Stored, may-pack, stored, copied}
 use borrow.Author.Needs.{needs}
 use Rattle.lists.proofs.packed.packed_list.Statement.{statement}
 use Rattle.lists.proofs.packed.packed_list.Tie as tie
-use Rattle.lists.proofs.packed.packed_list.Reads as reads
-use Rattle.lists.proofs.packed.packed_list.Lts as lts
-use Rattle.lists.proofs.answers.ended.Reads as ended-reads
-use Rattle.lists.proofs.answers.refused.Reads as refused-reads
-use Rattle.slices.proofs.copy.copy_to.Reads as copy-to-reads
-use Rattle.table.proofs.header.read_header.Reads as read-header-reads
-use Rattle.table.proofs.numbers.wide.Reads as wide-reads
-use Rattle.table_check.proofs.check.Reads as check-reads
-use Rattle.walk.proofs.packed.pack.Reads as pack-reads
-use Rattle.walk.proofs.room.working_words.Reads as working-words-reads
 
 -- past the check the table is good
 good : (c : tie.Else1) → tableRefusal (c .before .before .before .before .before .before .args .words .now) (c .before .before .before .before .before .before .args .labels .now) ≡ 0
@@ -48,97 +38,74 @@ packed c =
 wiped : (c : tie.After-wide) (end : List ℕ) → end ≡ replicate (length (c .before .before .before .pack .last .1 .0)) 0 → end ≡ zeroed (c .before .before .before .before .before .before .before .before .before .before .before .before .before .before .args .work .now)
 wiped c end is = is ∙ ap (λ (n : ℕ). replicate n 0) (c .before .before .before .pack .kept .1 .0)
 
--- src/packed.rt:29:9
 check-requires : tie.Need-check-requires
 check-requires c κs = search needs
 
--- src/packed.rt:31:9
 refused-requires : tie.Need-refused-requires
 refused-requires c κs = search needs
 
--- src/packed.rt:31:9
 returns : tie.Need-returns
 returns c = table-refused _ _ _ _ _ _ _ _ (c .refused .ensures .0 ∙ c .before .before .check .ensures) (λ z. c .before .if1 .taken (c .before .before .check .ensures ∙ z)) (c .refused .ensures .1)
 
--- src/packed.rt:33:21
 working-words-requires : tie.Need-working-words-requires
 working-words-requires c κs = right c
 
--- src/packed.rt:34:9
 refused-requires-2 : tie.Need-refused-requires-2
 refused-requires-2 c κs = search needs
 
--- src/packed.rt:34:9
 returns-2 : tie.Need-returns-2
 returns-2 c = work-short _ _ _ _ _ _ (good (c .before .before .before)) _ _ (c .refused2 .ensures .0) (c .refused2 .ensures .1) (omega (arith, c .before .before .working-words .ensures, c .before .if2 .taken))
 
--- src/packed.rt:36:9
 read-header-requires : tie.Need-read-header-requires
 read-header-requires c κs = right (c .before .before) .ten
 
--- src/packed.rt:39:9
 pack-requires : tie.Need-pack-requires
 pack-requires c κs = (right (c .before .before .before .before), may-pack _ _ (good (c .before .before .before .before)) _ _ (c .before .read-header .ensures .qed-is) _ (enough (c .before .before)))
 
--- src/packed.rt:40:17
 wide-requires : tie.Need-wide-requires
 wide-requires c κs = search needs
 
--- src/packed.rt:40:17
 add-start : tie.Need-add-start
 add-start c = search needs
 
--- src/packed.rt:41:18
 sub-length : tie.Need-sub-length
 sub-length c = packed c .begins
 
--- src/packed.rt:43:9
 ended-requires : tie.Need-ended-requires
 ended-requires c κs = search needs
 
--- src/packed.rt:43:9
 same-length : tie.Need-same-length
 same-length c = search needs
 
--- src/packed.rt:43:9
 returns-3 : tie.Need-returns-3
 returns-3 c =
     let v = c .before .before .before .before .before in
     no-room _ _ _ _ _ _ (good (v .before .before .before .before .before .before .before .before)) (enough (v .before .before .before .before .before .before)) refl _ _ _ (c .before .before .ended .ensures .0 .0) (c .before .before .ended .ensures .0 .1) (wiped v _ (c .before .before .ended .ensures .1)) (omega (arith, packed v .long, c .before .before .before .before .if3 .taken))
 
--- src/packed.rt:45:13
 mul-copy-to : tie.Need-mul-copy-to
 mul-copy-to c = search needs
 
--- src/packed.rt:45:13
 sub-copy-to : tie.Need-sub-copy-to
 sub-copy-to c = packed (c .before) .begins
 
--- src/packed.rt:45:13
 part-copy-to-start : tie.Need-part-copy-to-start
 part-copy-to-start c = packed (c .before .before) .begins
 
--- src/packed.rt:45:13
 part-copy-to-end : tie.Need-part-copy-to-end
 part-copy-to-end c = omega (arith, packed (c .before .before) .ends, enough (c .before .before .before .before .before .before .before .before), c .before .before .before .before .before .pack .kept .1 .0)
 
--- src/packed.rt:45:5
 copy-to-requires : tie.Need-copy-to-requires
 copy-to-requires c κs = search needs
 
--- src/packed.rt:46:5
 ended-requires-2 : tie.Need-ended-requires-2
 ended-requires-2 c κs = search needs
 
--- src/packed.rt:19:1
 same-length-2 : tie.Need-same-length-2
 same-length-2 c = search needs
 
--- src/packed.rt:19:1
 same-length-3 : tie.Need-same-length-3
 same-length-3 c = search needs
 
--- src/packed.rt:19:1
 returns-4 : tie.Need-returns-4
 returns-4 c =
     let v = c .before .before .before .before .before .before .before .before .before .before .before in

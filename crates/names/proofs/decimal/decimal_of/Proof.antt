@@ -1,4 +1,5 @@
 -- `decimal_of` meets its contract: the digits are put at the end of an array that has room for those of any number of 32 bits.
+-- Assumes nothing.
 use mathlib.Core.Path.{sym}
 use native.Mathlib.Omega.{arith}
 use borrow.Author.Needs.{needs}

@@ -1,4 +1,5 @@
 -- `is_decimal` meets its contract: the bytes are compared with the end of the array that holds the digits.
+-- Assumes nothing.
 use native.Mathlib.Omega.{arith}
 use borrow.Author.Needs.{needs}
 use Rattle.names.proofs.Decimals.{array-length, array-part}

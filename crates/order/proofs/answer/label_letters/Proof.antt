@@ -3,16 +3,14 @@
 use Rattle.order.proofs.Answers.{table-refused, layout-refused, work-short, sums-short, ended}
 use Rattle.layout.specs.Layouts.{layoutOf}
 use Rattle.defs.specs.Laws.{good as good-table}
-use Rattle.defs.specs.Checked.{HeaderOk, header}
-use Rattle.defs.specs.Refusals.{need32, need16}
+use Rattle.defs.specs.Checked.{header}
 use Rattle.defs.specs.Layout.{bad8}
 use Rattle.defs.specs.Check.{tableRefusal}
-use lib.ListN.{length, replicate}
+use lib.ListN.{replicate}
 use native.Mathlib.Omega.{arith}
-use Prim.Native.Nat.{ℕ, _≤_}
-use mathlib.Core.List.{List}
+use Prim.Native.Nat.{ℕ}
 use mathlib.Core.Bool.{false}
-use mathlib.Core.Path.{_≡_, refl, sym, ap, _∙_}
+use mathlib.Core.Path.{_≡_, sym, ap, _∙_}
 use borrow.Author.Needs.{needs}
 use Rattle.order.proofs.answer.label_letters.Statement.{statement}
 use Rattle.order.proofs.answer.label_letters.Tie as tie
@@ -24,79 +22,60 @@ good c = sym (c .before .check .ensures) ∙ c .if1 .left
 right : (c : tie.Else2) → bad8 (layoutOf (c .before .before .before .before .before .before .before .before .before .before .args .layout)) ≡ false
 right c = sym (c .before .is-bad .ensures) ∙ c .if2 .left
 
--- src/answer.rt:93:9
 check-requires : tie.Need-check-requires
 check-requires c κs = search needs
 
--- src/answer.rt:95:9
 refused-requires : tie.Need-refused-requires
 refused-requires c κs = search needs
 
--- src/answer.rt:95:9
 returns : tie.Need-returns
 returns c = table-refused _ _ _ _ _ _ _ _ _ _ (c .refused .ensures .0 ∙ c .before .before .check .ensures) (λ z. c .before .if1 .taken (c .before .before .check .ensures ∙ z)) (c .refused .ensures .1) (c .refused .ensures .2)
 
--- src/answer.rt:97:8
 is-bad-requires : tie.Need-is-bad-requires
 is-bad-requires c κs = search needs
 
--- src/answer.rt:98:9
 refused-requires-2 : tie.Need-refused-requires-2
 refused-requires-2 c κs = search needs
 
--- src/answer.rt:98:9
 returns-2 : tie.Need-returns-2
 returns-2 c = layout-refused _ _ _ _ _ _ _ (good (c .before .before .before)) _ _ _ (c .refused2 .ensures .0) (sym (c .before .before .is-bad .ensures) ∙ c .before .if2 .taken) (c .refused2 .ensures .1) (c .refused2 .ensures .2)
 
--- src/answer.rt:100:21
 working-words-requires : tie.Need-working-words-requires
 working-words-requires c κs = header _ (good-table _ _ (good (c .before .before)) .ok1)
 
--- src/answer.rt:101:9
 refused-requires-3 : tie.Need-refused-requires-3
 refused-requires-3 c κs = search needs
 
--- src/answer.rt:101:9
 returns-3 : tie.Need-returns-3
 returns-3 c = work-short _ _ _ _ _ _ _ (good (c .before .before .before .before .before)) (right (c .before .before .before)) _ _ _ (c .refused3 .ensures .0) (omega (arith, c .before .before .working-words .ensures, c .before .if3 .taken)) (c .refused3 .ensures .1) (c .refused3 .ensures .2)
 
--- src/answer.rt:103:21
 working-sums-requires : tie.Need-working-sums-requires
 working-sums-requires c κs = (header _ (good-table _ _ (good (c .before .before .before .before)) .ok1), right (c .before .before))
 
--- src/answer.rt:104:9
 refused-requires-4 : tie.Need-refused-requires-4
 refused-requires-4 c κs = search needs
 
--- src/answer.rt:104:9
 returns-4 : tie.Need-returns-4
 returns-4 c = sums-short _ _ _ _ _ _ _ (good (c .before .before .before .before .before .before .before)) (right (c .before .before .before .before .before)) _ _ _ (c .refused4 .ensures .0) (omega (arith, c .before .before .working-sums .ensures, c .before .if4 .taken)) (c .refused4 .ensures .1) (c .refused4 .ensures .2)
 
--- src/answer.rt:106:9
 write-both-requires : tie.Need-write-both-requires
 write-both-requires c κs = record { listable = record { b = _; ok = good (c .before .before .before .before .before .before .before .before .before .before); enough = omega (arith, c .before .before .before .before .before .before .before .working-words .ensures, c .before .before .before .before .before .before .if3 .left) }; right = right (c .before .before .before .before .before .before .before .before); cells-enough = omega (arith, c .before .before .before .before .before .working-sums .ensures, c .before .before .before .before .if4 .left) }
 
--- src/answer.rt:107:5
 wipe-requires : tie.Need-wipe-requires
 wipe-requires c κs = search needs
 
--- src/answer.rt:81:1
 same-length : tie.Need-same-length
 same-length c = search needs
 
--- src/answer.rt:81:1
 same-length-2 : tie.Need-same-length-2
 same-length-2 c = search needs
 
--- src/answer.rt:81:1
 same-length-3 : tie.Need-same-length-3
 same-length-3 c = search needs
 
--- src/answer.rt:81:1
 same-length-4 : tie.Need-same-length-4
 same-length-4 c = search needs
 
--- src/answer.rt:81:1
 returns-5 : tie.Need-returns-5
 returns-5 c =
     ended _ _ _ _ _ _ _ (good (c .before .before .before .before .before .before .before .before .before .before .before .before .before .before .before .before .before .before .before .before .before .before .before .before .before .before)) (right (c .before .before .before .before .before .before .before .before .before .before .before .before .before .before .before .before .before .before .before .before .before .before .before .before)) (omega (arith, c .before .before .before .before .before .before .before .before .before .before .before .before .before .before .before .before .before .before .before .before .before .before .before .working-words .ensures, c .before .before .before .before .before .before .before .before .before .before .before .before .before .before .before .before .before .before .before .before .before .before .if3 .left)) (omega (arith, c .before .before .before .before .before .before .before .before .before .before .before .before .before .before .before .before .before .before .before .before .before .working-sums .ensures, c .before .before .before .before .before .before .before .before .before .before .before .before .before .before .before .before .before .before .before .before .if4 .left))

@@ -8,13 +8,12 @@ use Rattle.layout.specs.Layouts.{layoutOf}
 use Rattle.defs.specs.Text.{labelsOf, lettersFor}
 use Rattle.defs.specs.Outcome.{compressedTests}
 use Rattle.defs.specs.Check.{firstOf}
-use Rattle.laws.specs.Puts.{Grows}
 use Rattle.laws.specs.Tools.{part, over}
 use lib.ListN.{length}
 use native.Mathlib.Omega.{arith}
-use Prim.Native.Nat.{ℕ, _+_, _-_, _≤_, _<_}
-use mathlib.Core.List.{List, _++_}
-use mathlib.Core.Path.{_≡_, refl, sym, ap, _∙_}
+use Prim.Native.Nat.{_+_, _-_}
+use mathlib.Core.List.{_++_}
+use mathlib.Core.Path.{_≡_, sym, ap, _∙_}
 use borrow.Author.Needs.{needs}
 use Rattle.order.proofs.answer.write_both.Statement.{statement}
 use Rattle.order.proofs.answer.write_both.Tie as tie
@@ -43,123 +42,93 @@ list-there c =
     let n : a .labels + a .listed - a .labels ≡ a .listed = omega arith in
     rw n (arranged c .list)
 
--- src/answer.rt:52:9
 arrange-requires : tie.Need-arrange-requires
 arrange-requires c κs = search needs
 
--- src/answer.rt:55:9
 refused-requires : tie.Need-refused-requires
 refused-requires c κs = search needs
 
--- src/answer.rt:55:9
 same-length : tie.Need-same-length
 same-length c = search needs
 
--- src/answer.rt:55:9
 same-length-2 : tie.Need-same-length-2
 same-length-2 c = search needs
 
--- src/answer.rt:55:9
 returns : tie.Need-returns
 returns c = refused-first _ _ _ _ _ _ _ _ (c .refused .ensures .0) (c .before .before .before .before .before .before .arrange .ensures .number-is) (c .before .if1 .taken) (c .refused .ensures .1) (c .refused .ensures .2)
 
--- src/answer.rt:63:15
 add-end : tie.Need-add-end
 add-end c = omega (arith, arranged c .labels-in, c .before .before .before .before .before .arrange .kept .1 .1 .0)
 
--- src/answer.rt:64:68
 slice-relend-prefix-put-steps : tie.Need-slice-relend-prefix-put-steps
 slice-relend-prefix-put-steps c = search needs
 
--- src/answer.rt:64:68
 slice-aggregate-put-steps : tie.Need-slice-aggregate-put-steps
 slice-aggregate-put-steps c = search needs
 
--- src/answer.rt:64:9
 put-steps-requires : tie.Need-put-steps-requires
 put-steps-requires c κs = arranged (c .before .before) .ready
 
--- src/answer.rt:66:9
 refused-requires-2 : tie.Need-refused-requires-2
 refused-requires-2 c κs = search needs
 
--- src/answer.rt:66:9
 same-length-3 : tie.Need-same-length-3
 same-length-3 c = search needs
 
--- src/answer.rt:66:9
 same-length-4 : tie.Need-same-length-4
 same-length-4 c = search needs
 
--- src/answer.rt:66:9
 same-length-5 : tie.Need-same-length-5
 same-length-5 c = search needs
 
--- src/answer.rt:66:9
 returns-2 : tie.Need-returns-2
 returns-2 c = list-short _ _ _ _ (fine (c .before .before .before .before .before .before .before)) _ _ _ _ (unlent (c .before .before .before .before)) (c .refused2 .ensures .0) (omega (arith, c .before .if2 .taken, arranged (c .before .before .before .before .before .before .before) .listed-is)) (c .refused2 .ensures .1) (c .refused2 .ensures .2)
 
--- src/answer.rt:69:9
 refused-requires-3 : tie.Need-refused-requires-3
 refused-requires-3 c κs = search needs
 
--- src/answer.rt:69:9
 same-length-6 : tie.Need-same-length-6
 same-length-6 c = search needs
 
--- src/answer.rt:69:9
 same-length-7 : tie.Need-same-length-7
 same-length-7 c = search needs
 
--- src/answer.rt:69:9
 same-length-8 : tie.Need-same-length-8
 same-length-8 c = search needs
 
--- src/answer.rt:69:9
 returns-3 : tie.Need-returns-3
 returns-3 c = letters-short _ _ _ _ (fine (c .before .before .before .before .before .before .before .before)) _ _ _ _ (unlent (c .before .before .before .before .before)) (c .refused3 .ensures .0) (omega (arith, c .before .if3 .taken, ap length (unlent (c .before .before .before .before .before)), measured (c .before .before .before .before .before))) (c .refused3 .ensures .1) (c .refused3 .ensures .2)
 
--- src/answer.rt:71:13
 mul-copy-to : tie.Need-mul-copy-to
 mul-copy-to c = omega (arith, arranged (c .before .before .before .before .before .before .before) .labels-in, c .before .before .before .before .before .before .before .before .before .before .before .before .arrange .kept .1 .1 .0)
 
--- src/answer.rt:71:13
 sub-copy-to : tie.Need-sub-copy-to
 sub-copy-to c = search needs
 
--- src/answer.rt:71:13
 part-copy-to-start : tie.Need-part-copy-to-start
 part-copy-to-start c = search needs
 
--- src/answer.rt:71:13
 part-copy-to-end : tie.Need-part-copy-to-end
 part-copy-to-end c = omega (arith, arranged (c .before .before .before .before .before .before .before .before) .labels-in)
 
--- src/answer.rt:71:5
 copy-to-requires : tie.Need-copy-to-requires
 copy-to-requires c κs = search needs
 
--- src/answer.rt:72:5
 put-steps-requires-2 : tie.Need-put-steps-requires-2
 put-steps-requires-2 c κs = arranged (c .before .before .before .before .before .before .before .before .before .before .before .before .before .before .before) .ready
 
--- src/answer.rt:40:1
 same-length-9 : tie.Need-same-length-9
 same-length-9 c = search needs
 
--- src/answer.rt:40:1
 same-length-10 : tie.Need-same-length-10
 same-length-10 c = search needs
 
--- src/answer.rt:40:1
 same-length-11 : tie.Need-same-length-11
 same-length-11 c = search needs
 
--- src/answer.rt:40:1
 same-length-12 : tie.Need-same-length-12
 same-length-12 c = search needs
 
--- src/answer.rt:40:1
 returns-4 : tie.Need-returns-4
 unfolding lettersFor
 returns-4 c =

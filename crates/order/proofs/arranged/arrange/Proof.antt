@@ -7,19 +7,17 @@ use Rattle.order.proofs.Tests.{mixed-first, by-listed, none-long, line-
 use Rattle.theorem.proofs.Goals.{theorem-ok, list-statements, list-short, refusal-10}
 use Rattle.layout.specs.Layouts.{layoutOf}
 use Rattle.defs.specs.Refusals.{need32, bad10}
-use Rattle.defs.specs.Checked.{HeaderOk, header}
+use Rattle.defs.specs.Checked.{header}
 use Rattle.defs.specs.Text.{packedOf}
 use Rattle.defs.specs.Order.{listed}
-use Rattle.defs.specs.Layout.{lineRoom}
 use Rattle.defs.specs.Laws.{good}
-use Rattle.defs.specs.Table.{statements, entries, labelLength, mandatory}
+use Rattle.defs.specs.Table.{statements, entries, labelLength}
 use Rattle.laws.specs.Tools.{any, part}
 use lib.Dec.{ltb}
 use lib.ListN.{length}
 use native.Mathlib.Omega.{arith}
 use Prim.Native.Nat.{ℕ, _+_, _-_, _*_, _≤_}
-use mathlib.Core.List.{List}
-use mathlib.Core.Bool.{true, false}
+use mathlib.Core.Bool.{false}
 use mathlib.Core.Path.{_≡_, refl, sym, ap, _∙_}
 use borrow.Author.Needs.{needs}
 use Rattle.order.proofs.arranged.arrange.Statement.{statement}
@@ -68,123 +66,93 @@ short c =
     none-long _ _ (layoutOf (c .before .before .before .before .before .before .before .before .before .before .before .before .before .before .before .before .before .before .before .args .layout)) (c .before .before .before .before .before .before .before .before .before .before .before .before .before .before .before .before .before .before .before .pre .listable .ok) (c .before .test-listed .result) _ _ (c .before .before .before .before .before .before .before .before .before .before .before .line-room .ensures) (listed-is (c .before .before .before .before))
     (rw (c .before .before .before .before .before .before .before .before .before .before .before .before .before .before .before .statement-section .ensures) at (c .before .test-listed .ensures)) (c .if2 .left)
 
--- src/arranged.rt:102:9
 statement-section-requires : tie.Need-statement-section-requires
 statement-section-requires c κs = header _ (good _ _ (c .before .before .before .pre .listable .ok) .ok1)
 
--- src/arranged.rt:103:9
 theorem-list-requires : tie.Need-theorem-list-requires
 theorem-list-requires c κs = theorem-ok _ _ (c .before .before .before .before .pre .listable .ok)
 
--- src/arranged.rt:104:8
 mixed-requires : tie.Need-mixed-requires
 mixed-requires c κs = rw (c .before .statement-section .ensures, c .theorem-list .ensures) (list-statements _ (theorem-ok _ _ (c .before .before .before .before .before .pre .listable .ok)))
 
--- src/arranged.rt:105:9
 refused-requires : tie.Need-refused-requires
 refused-requires c κs = search needs
 
--- src/arranged.rt:105:9
 returns : tie.Need-returns
 returns c = record { number-is = mixed-first _ _ _ (c .before .before .before .before .before .before .before .before .pre .listable .ok) _ (c .refused .ensures) (sym (is-mixed (c .before .before)) ∙ c .before .if1 .taken); done = λ z. absurd (omega (arith, c .refused .ensures)) }
 
--- src/arranged.rt:107:9
 line-room-requires : tie.Need-line-room-requires
 line-room-requires c κs = search needs
 
--- src/arranged.rt:108:9
 read-header-requires : tie.Need-read-header-requires
 read-header-requires c κs = header _ (good _ _ (c .before .before .before .before .before .before .before .before .pre .listable .ok) .ok1) .ten
 
--- src/arranged.rt:109:17
 wide-requires : tie.Need-wide-requires
 wide-requires c κs = search needs
 
--- src/arranged.rt:109:17
 add-start : tie.Need-add-start
 add-start c = search needs
 
--- src/arranged.rt:110:9
 list-packed-requires : tie.Need-list-packed-requires
 list-packed-requires c κs = search needs
 
--- src/arranged.rt:113:26
 wide-requires-2 : tie.Need-wide-requires-2
 wide-requires-2 c κs = search needs
 
--- src/arranged.rt:113:22
 mul-from : tie.Need-mul-from
 mul-from c = search needs
 
--- src/arranged.rt:113:16
 add-from : tie.Need-add-from
 add-from c = omega (arith, ends c, few c)
 
--- src/arranged.rt:114:14
 add-to : tie.Need-add-to
 add-to c = omega (arith, ends c, few c)
 
--- src/arranged.rt:115:42
 mul-test-listed : tie.Need-mul-test-listed
 mul-test-listed c = omega (arith, ends c, few c)
 
--- src/arranged.rt:115:42
 sub-test-listed : tie.Need-sub-test-listed
 sub-test-listed c = search needs
 
--- src/arranged.rt:115:42
 part-test-listed-start : tie.Need-part-test-listed-start
 part-test-listed-start c = search needs
 
--- src/arranged.rt:115:42
 part-test-listed-end : tie.Need-part-test-listed-end
 part-test-listed-end c = omega (arith, ends (c .before), few (c .before))
 
--- src/arranged.rt:115:59
 sub-test-listed-2 : tie.Need-sub-test-listed-2
 sub-test-listed-2 c = omega (arith, c .before .before .before .before .before .before .before .before .before .line-room .ensures, line-room-least _ (c .before .before .before .before .before .before .before .before .before .before .before .before .before .before .before .before .before .pre .right))
 
--- src/arranged.rt:115:9
 test-listed-requires : tie.Need-test-listed-requires
 test-listed-requires c κs = listed-statements _ _ (c .before .before .before .before .before .before .before .before .before .before .before .before .before .before .before .before .before .pre .listable .ok) (layoutOf (c .before .before .before .before .before .before .before .before .before .before .before .before .before .before .before .before .before .args .layout)) (c .before .before .before .before .before .before .before .before .before .before .before .before .before .before .before .before .before .pre .right) _ _ (c .before .before .before .before .before .before .before .before .before .before .before .before .before .statement-section .ensures) (listed-is (c .before .before))
 
--- src/arranged.rt:117:9
 refused-requires-2 : tie.Need-refused-requires-2
 refused-requires-2 c κs = search needs
 
--- src/arranged.rt:117:9
 same-length : tie.Need-same-length
 same-length c = search needs
 
--- src/arranged.rt:117:9
 returns-2 : tie.Need-returns-2
 returns-2 c = record { number-is = tested (c .before .before) _ (c .refused2 .ensures); done = λ z. absurd (c .before .if2 .taken (sym (c .refused2 .ensures) ∙ z)) }
 
--- src/arranged.rt:119:9
 order-labels-requires : tie.Need-order-labels-requires
 order-labels-requires c κs = can-order _ _ (c .before .before .before .before .before .before .before .before .before .before .before .before .before .before .before .before .before .before .before .before .before .pre .listable .ok) (layoutOf (c .before .before .before .before .before .before .before .before .before .before .before .before .before .before .before .before .before .before .before .before .before .args .layout)) (c .before .before .before .before .before .before .before .before .before .before .before .before .before .before .before .before .before .before .before .before .before .pre .right) _ _ _ _ (c .before .before .before .before .before .before .before .before .before .list-packed .ensures) (enough (c .before .before .before .before .before .before)) (c .before .before .before .before .before .before .before .before .before .before .before .before .before .before .before .before .before .before .before .before .before .pre .cells-enough) (c .before .before .before .before .before .before .before .before .before .before .before .before .before .line-room .ensures) (short (c .before .before))
 
--- src/arranged.rt:123:17
 sub-t18 : tie.Need-sub-t18
 sub-t18 c = search needs
 
--- src/arranged.rt:127:16
 add-t31 : tie.Need-add-t31
 add-t31 c = omega (arith, ap length (c .before .before .before .before .before .before .before .before .before .before .before .before .before .before .before .before .before .before .before .before .before .theorem-list .ensures), list-short _ (theorem-ok _ _ (c .before .before .before .before .before .before .before .before .before .before .before .before .before .before .before .before .before .before .before .before .before .before .before .before .before .before .pre .listable .ok)), few (c .before .before .before .before .before .before .before .before .before .before .before), small (c .before .before .before .before .before .before .before .before .before .before .before))
 
--- src/arranged.rt:127:15
 cast-t32 : tie.Need-cast-t32
 cast-t32 c = omega (arith, ap length (c .before .before .before .before .before .before .before .before .before .before .before .before .before .before .before .before .before .before .before .before .before .theorem-list .ensures), list-short _ (theorem-ok _ _ (c .before .before .before .before .before .before .before .before .before .before .before .before .before .before .before .before .before .before .before .before .before .before .before .before .before .before .pre .listable .ok)), few (c .before .before .before .before .before .before .before .before .before .before .before), small (c .before .before .before .before .before .before .before .before .before .before .before))
 
--- src/arranged.rt:98:1
 same-length-2 : tie.Need-same-length-2
 same-length-2 c = search needs
 
--- src/arranged.rt:98:1
 same-length-3 : tie.Need-same-length-3
 same-length-3 c = search needs
 
--- src/arranged.rt:98:1
 returns-3 : tie.Need-returns-3
 returns-3 c =
     record {

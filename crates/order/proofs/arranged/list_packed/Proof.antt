@@ -4,17 +4,13 @@ use Rattle.order.proofs.Listed.{steps-are, can-list, now-listed}
 use Rattle.theorem.proofs.Goals.{theorem-ok}
 use Rattle.lists.proofs.ListLaws.{Stored, may-pack, stored}
 use Rattle.walk.specs.Packed.{held}
-use Rattle.defs.specs.Refusals.{need32}
-use Rattle.defs.specs.Checked.{HeaderOk, header}
+use Rattle.defs.specs.Checked.{header}
 use Rattle.defs.specs.Laws.{good}
-use Rattle.defs.specs.Text.{packedOf}
-use Rattle.defs.specs.Table.{entries, statements}
-use lib.ListN.{length}
+use Rattle.defs.specs.Table.{entries}
 use native.Mathlib.Omega.{arith}
-use Prim.Native.Nat.{ℕ, _+_, _-_, _/_, _≤_}
-use mathlib.Core.List.{List}
+use Prim.Native.Nat.{ℕ, _+_}
 use mathlib.Core.Bool.{false}
-use mathlib.Core.Path.{_≡_, refl, sym, ap, _∙_}
+use mathlib.Core.Path.{_≡_, ap, _∙_}
 use borrow.Author.Needs.{needs}
 use Rattle.order.proofs.arranged.list_packed.Statement.{statement}
 use Rattle.order.proofs.arranged.list_packed.Tie as tie
@@ -26,47 +22,36 @@ start-is c = ap (λ (n : ℕ). n + 1) (c .wide .ensures ∙ c .before .before .b
 packed : (c : tie.After-wide) → Stored (c .before .before .before .before .before .before .before .before .args .words .now) false (c .wide .result + 1) (held (c .before .before .before .pack .last .1 .0) (c .before .before .before .pack .result))
 packed c = stored _ _ (c .before .before .before .before .before .before .before .before .pre .ok) _ _ (c .before .before .before .before .before .read-header .ensures .qed-is) _ (start-is c) _ (c .before .before .before .pack .ensures)
 
--- src/arranged.rt:55:9
 read-header-requires : tie.Need-read-header-requires
 read-header-requires c κs = header _ (good _ _ (c .before .before .pre .ok) .ok1) .ten
 
--- src/arranged.rt:58:9
 pack-requires : tie.Need-pack-requires
 pack-requires c κs = (header _ (good _ _ (c .before .before .before .before .pre .ok) .ok1), may-pack _ _ (c .before .before .before .before .pre .ok) _ _ (c .before .read-header .ensures .qed-is) _ (c .before .before .before .before .pre .enough))
 
--- src/arranged.rt:59:17
 wide-requires : tie.Need-wide-requires
 wide-requires c κs = search needs
 
--- src/arranged.rt:59:17
 add-start : tie.Need-add-start
 add-start c = search needs
 
--- src/arranged.rt:60:18
 sub-steps : tie.Need-sub-steps
 sub-steps c = packed c .begins
 
--- src/arranged.rt:61:9
 statement-section-requires : tie.Need-statement-section-requires
 statement-section-requires c κs = header _ (good _ _ (c .before .before .before .before .before .before .before .before .pre .ok) .ok1)
 
--- src/arranged.rt:62:9
 theorem-list-requires : tie.Need-theorem-list-requires
 theorem-list-requires c κs = theorem-ok _ _ (c .before .before .before .before .before .before .before .before .before .pre .ok)
 
--- src/arranged.rt:63:9
 wide-requires-2 : tie.Need-wide-requires-2
 wide-requires-2 c κs = search needs
 
--- src/arranged.rt:64:9
 list-statements-requires : tie.Need-list-statements-requires
 list-statements-requires c κs = can-list _ _ (c .before .before .before .before .before .before .before .before .before .before .before .before .pre .ok) _ _ _ (start-is (c .before .before .before .before)) (packed (c .before .before .before .before)) _ _ _ _ (c .before .before .before .statement-section .ensures) (c .before .before .theorem-list .ensures) (c .before .wide2 .ensures ∙ c .before .before .before .before .before .before .before .before .before .read-header .ensures .statements-is) (steps-are _ _ (c .before .before .before .before .before .before .before .before .before .before .before .before .pre .ok) _ _ _ (start-is (c .before .before .before .before)) (packed (c .before .before .before .before))) (omega (arith, c .before .before .before .before .before .before .before .before .before .before .before .before .pre .enough, c .before .before .before .before .before .before .before .pack .kept .1 .0))
 
--- src/arranged.rt:51:1
 same-length : tie.Need-same-length
 same-length c = search needs
 
--- src/arranged.rt:51:1
 returns : tie.Need-returns
 returns c = now-listed _ _ (c .before .before .before .before .before .before .before .before .before .before .before .before .before .before .before .pre .ok) _ _ _ (start-is (c .before .before .before .before .before .before .before)) (packed (c .before .before .before .before .before .before .before)) _ _ _ _ (c .before .before .before .before .before .before .statement-section .ensures) (c .before .before .before .before .before .theorem-list .ensures) (c .before .before .before .before .wide2 .ensures ∙ c .before .before .before .before .before .before .before .before .before .before .before .before .read-header .ensures .statements-is) (steps-are _ _ (c .before .before .before .before .before .before .before .before .before .before .before .before .before .before .before .pre .ok) _ _ _ (start-is (c .before .before .before .before .before .before .before)) (packed (c .before .before .before .before .before .before .before))) _ _ (c .before .before .list-statements .kept .1 .1 .0) (omega (arith, packed (c .before .before .before .before .before .before .before) .ends, c .before .before .before .before .before .before .before .before .before .before .before .before .before .before .before .pre .enough, c .before .before .before .before .before .before .before .before .before .before .pack .kept .1 .0)) (c .before .before .list-statements .ensures)
 

@@ -2,39 +2,31 @@
 -- The limits of the header and of the layout give that.
 use Rattle.order.proofs.Tests.{line-room-most, cells-most}
 use Rattle.defs.specs.Refusals.{need16}
-use Prim.Native.Nat.{ℕ, _+_, _*_, _≤_}
-use mathlib.Core.Path.{_≡_, ap₂}
-use native.Mathlib.Nat.{mul-le-mul}
+use Prim.Native.Nat.{ℕ, _+_, _*_}
+use mathlib.Core.Path.{ap₂}
 use native.Mathlib.Omega.{arith}
 use borrow.Author.Needs.{needs}
 use Rattle.order.proofs.room.working_sums.Statement.{statement}
 use Rattle.order.proofs.room.working_sums.Tie as tie
 
--- src/room.rt:17:11
 shared-slice-read-wide : tie.Need-shared-slice-read-wide
 shared-slice-read-wide c = search needs
 
--- src/room.rt:17:6
 wide-requires : tie.Need-wide-requires
 wide-requires c κs = search needs
 
--- src/room.rt:17:6
 add-result : tie.Need-add-result
 add-result c = search needs
 
--- src/room.rt:17:29
 line-room-requires : tie.Need-line-room-requires
 line-room-requires c κs = search needs
 
--- src/room.rt:17:29
 add-result-2 : tie.Need-add-result-2
 add-result-2 c = omega (arith, c .line-room .ensures, line-room-most _ (c .before .before .before .before .pre .1))
 
--- src/room.rt:17:5
 mul-result : tie.Need-mul-result
 mul-result c = omega (arith, cells-most _ _ (c .before .wide .ensures) (c .before .before .before .before .pre .0 .s-most) _ _ (c .line-room .ensures) (c .before .before .before .before .pre .1))
 
--- src/room.rt:12:1
 returns : tie.Need-returns
 unfolding need16
 returns c = ap₂ (λ (s W : ℕ). (s + 1) * (W + 1)) (c .before .wide .ensures) (c .line-room .ensures)

@@ -1,7 +1,6 @@
 -- `text` meets its contract: module Answers says the answer at each return.
 -- Past test 14 the answer is that of `write_text`, with both working slices zero.
 use Rattle.text.proofs.Answers.{table-refused, layout-refused, style-refused, work-short, ended, work-enough, sums-enough}
-use Rattle.text.specs.Late.{WroteText}
 use Rattle.text.specs.Styles.{numberOf, read-known, read-unknown, number-known}
 use Rattle.layout.specs.Layouts.{layoutOf}
 use Rattle.defs.specs.Refusals.{need32, need16}
@@ -13,8 +12,8 @@ use Rattle.defs.specs.Check.{tableRefusal}
 use lib.Dec.{ltb}
 use lib.ListN.{length, replicate}
 use Prim.Native.Nat.{ℕ}
-use mathlib.Core.Bool.{true, false, _&&_, _||_}
-use mathlib.Core.Path.{_≡_, refl, sym, ap, _∙_}
+use mathlib.Core.Bool.{false, _&&_, _||_}
+use mathlib.Core.Path.{_≡_, sym, ap, _∙_}
 use borrow.Author.Needs.{needs}
 use Rattle.text.proofs.answer.text.Statement.{statement}
 use Rattle.text.proofs.answer.text.Tie as tie
@@ -39,83 +38,63 @@ short : (c : tie.After-is-short) →
     (ltb (length (a .work .now)) (need32 (a .words .now)) || (isCompressed (a .style) && ltb (length (a .sums .now)) (need16 (a .words .now) (layoutOf (a .layout))))) ≡ c .is-short .result
 short c = rw (style-is (c .before)) (sym (c .is-short .ensures))
 
--- src/answer.rt:52:9
 check-requires : tie.Need-check-requires
 check-requires c κs = search needs
 
--- src/answer.rt:54:9
 refused-requires : tie.Need-refused-requires
 refused-requires c κs = search needs
 
--- src/answer.rt:54:9
 returns : tie.Need-returns
 returns c = table-refused _ _ _ _ _ _ _ _ _ (c .refused .ensures .0 ∙ c .before .before .check .ensures) (λ z. c .before .if1 .taken (c .before .before .check .ensures ∙ z)) (c .refused .ensures .1)
 
--- src/answer.rt:56:8
 is-bad-requires : tie.Need-is-bad-requires
 is-bad-requires c κs = search needs
 
--- src/answer.rt:57:9
 refused-requires-2 : tie.Need-refused-requires-2
 refused-requires-2 c κs = search needs
 
--- src/answer.rt:57:9
 returns-2 : tie.Need-returns-2
 returns-2 c = layout-refused _ _ _ _ _ _ _ (good (c .before .before .before)) _ _ (c .refused2 .ensures .0) (sym (c .before .before .is-bad .ensures) ∙ c .before .if2 .taken) (c .refused2 .ensures .1)
 
--- src/answer.rt:59:35
 from-number-requires : tie.Need-from-number-requires
 from-number-requires c κs = search needs
 
--- src/answer.rt:59:26
 enum-known-known : tie.Need-enum-known-known
 enum-known-known c = search needs
 
--- src/answer.rt:60:9
 enum-told : tie.Need-enum-told
 enum-told c = search needs
 
--- src/answer.rt:60:9
 refused-requires-3 : tie.Need-refused-requires-3
 refused-requires-3 c κs = search needs
 
--- src/answer.rt:60:9
 returns-3 : tie.Need-returns-3
 returns-3 c = style-refused _ _ _ _ _ _ _ (good (c .before .before .before .before .before .before)) (right (c .before .before .before .before)) _ _ (c .refused3 .ensures .0) (read-unknown _ _ (c .before .before .before .from-number .ensures) (c .before .enum-told .given .1)) (c .refused3 .ensures .1)
 
--- src/answer.rt:62:8
 is-short-requires : tie.Need-is-short-requires
 is-short-requires c κs = (header _ (good-table _ _ (good (c .before .before .before .before .before .before)) .ok1), right (c .before .before .before .before))
 
--- src/answer.rt:63:9
 refused-requires-4 : tie.Need-refused-requires-4
 refused-requires-4 c κs = search needs
 
--- src/answer.rt:63:9
 returns-4 : tie.Need-returns-4
 returns-4 c = work-short _ _ _ _ _ _ _ (good (c .before .before .before .before .before .before .before .before .before)) (right (c .before .before .before .before .before .before .before)) (known (c .before .before .before)) _ _ (c .refused4 .ensures .0) (short (c .before .before) ∙ c .before .if3 .taken) (c .refused4 .ensures .1)
 
--- src/answer.rt:65:9
 write-text-requires : tie.Need-write-text-requires
 write-text-requires c κs = (record { ok = good (c .before .before .before .before .before .before .before .before .before .before .before); right = right (c .before .before .before .before .before .before .before .before .before); enough = work-enough (c .before .before .before .before .before .before .before .before .before .before .before .before .before .before .before .before .before .before .args .words .now) (layoutOf (c .before .before .before .before .before .before .before .before .before .before .before .before .before .before .before .before .before .before .args .layout)) (numberOf (c .before .before .before .before .before .before .known .given .0 .0)) (length (c .before .before .before .before .before .before .before .before .before .before .before .before .before .before .before .before .before .before .args .work .now)) (length (c .before .before .before .before .before .before .before .before .before .before .before .before .before .before .before .before .before .before .args .sums .now)) (sym (c .before .before .before .before .is-short .ensures) ∙ c .before .before .before .if3 .left) }, sums-enough (c .before .before .before .before .before .before .before .before .before .before .before .before .before .before .before .before .before .before .args .words .now) (layoutOf (c .before .before .before .before .before .before .before .before .before .before .before .before .before .before .before .before .before .before .args .layout)) (numberOf (c .before .before .before .before .before .before .known .given .0 .0)) (length (c .before .before .before .before .before .before .before .before .before .before .before .before .before .before .before .before .before .before .args .work .now)) (length (c .before .before .before .before .before .before .before .before .before .before .before .before .before .before .before .before .before .before .args .sums .now)) (sym (c .before .before .before .before .is-short .ensures) ∙ c .before .before .before .if3 .left))
 
--- src/answer.rt:66:5
 wipe-requires : tie.Need-wipe-requires
 wipe-requires c κs = search needs
 
--- src/answer.rt:40:1
 same-length : tie.Need-same-length
 same-length c = search needs
 
--- src/answer.rt:40:1
 same-length-2 : tie.Need-same-length-2
 same-length-2 c = search needs
 
--- src/answer.rt:40:1
 same-length-3 : tie.Need-same-length-3
 same-length-3 c = search needs
 
--- src/answer.rt:40:1
 returns-5 : tie.Need-returns-5
 returns-5 c =
     ended _ _ _ _ _ _ _ (good (c .before .before .before .before .before .before .before .before .before .before .before .before .before .before .before .before .before .before .before .before .before .before .before .before .before)) (right (c .before .before .before .before .before .before .before .before .before .before .before .before .before .before .before .before .before .before .before .before .before .before .before)) (known (c .before .before .before .before .before .before .before .before .before .before .before .before .before .before .before .before .before .before .before)) (short (c .before .before .before .before .before .before .before .before .before .before .before .before .before .before .before .before .before .before) ∙ c .before .before .before .before .before .before .before .before .before .before .before .before .before .before .before .before .before .if3 .left) _ _ _ _ _

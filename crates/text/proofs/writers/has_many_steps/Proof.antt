@@ -2,41 +2,31 @@
 -- The law is of crate counts.
 use Rattle.text.proofs.Endings.{steps-13}
 use Rattle.lists.proofs.ListLaws.{may-count}
-use Rattle.defs.specs.Checked.{HeaderOk, header}
+use Rattle.defs.specs.Checked.{header}
 use Rattle.defs.specs.Laws.{good}
-use borrow.Author.Tests.{lt-ltb, le-ltb}
-use native.Mathlib.Omega.{arith}
-use mathlib.Core.Bool.{true, false}
-use mathlib.Core.Path.{_≡_, sym, ap, _∙_}
+use mathlib.Core.Path.{_∙_}
 use borrow.Author.Needs.{needs}
 use Rattle.text.proofs.writers.has_many_steps.Statement.{statement}
 use Rattle.text.proofs.writers.has_many_steps.Tie as tie
 
--- src/writers.rt:106:9
 read-header-requires : tie.Need-read-header-requires
 read-header-requires c κs = header _ (good _ _ (c .before .before .pre .ok) .ok1) .ten
 
--- src/writers.rt:107:9
 entry-section-requires : tie.Need-entry-section-requires
 entry-section-requires c κs = header _ (good _ _ (c .before .before .before .pre .ok) .ok1)
 
--- src/writers.rt:108:9
 child-section-requires : tie.Need-child-section-requires
 child-section-requires c κs = header _ (good _ _ (c .before .before .before .before .pre .ok) .ok1)
 
--- src/writers.rt:109:48
 wide-requires : tie.Need-wide-requires
 wide-requires c κs = search needs
 
--- src/writers.rt:109:9
 count-steps-requires : tie.Need-count-steps-requires
 count-steps-requires c κs = may-count _ _ (c .before .before .before .before .before .before .before .pre .ok) _ _ _ (c .before .before .before .entry-section .ensures) (c .before .before .child-section .ensures) (c .before .before .before .before .read-header .ensures .qed-is) _ _ (c .before .wide .ensures ∙ c .before .before .before .before .read-header .ensures .entries-is) (c .before .before .before .before .before .before .before .pre .enough)
 
--- src/writers.rt:102:1
 same-length : tie.Need-same-length
 same-length c = search needs
 
--- src/writers.rt:102:1
 returns : tie.Need-returns
 returns c = steps-13 _ _ _ _ _ (c .before .before .before .before .before .before .entry-section .ensures) (c .before .before .before .before .before .child-section .ensures) (c .before .before .before .before .before .before .before .read-header .ensures .qed-is) (c .before .before .count-steps .ensures)
 

@@ -3,7 +3,7 @@
 use Rattle.text.proofs.Endings.{no-room, fits, refused-first, compressed-late, over-both}
 use Rattle.compressed.specs.declared.places.Places.{Places}
 use Rattle.compressed.specs.OfTables.{text-ready, ends-style, fits-style}
-use Rattle.compressed.specs.Texts.{TextReady, TextWrote}
+use Rattle.compressed.specs.Texts.{TextReady}
 use Rattle.order.specs.Arrangement.{Arrangement}
 use Rattle.layout.proofs.Free.{none-lent}
 use Rattle.layout.specs.Layouts.{layoutOf}
@@ -15,8 +15,7 @@ use Rattle.defs.specs.Checked.{header}
 use Rattle.defs.specs.Check.{firstOf}
 use lib.ListN.{length}
 use native.Mathlib.Omega.{arith}
-use Prim.Native.Nat.{ℕ, _≤_, _<_}
-use mathlib.Core.List.{List, _++_}
+use mathlib.Core.List.{_++_}
 use mathlib.Core.Path.{_≡_, refl, sym, ap, _∙_}
 use borrow.Author.Needs.{needs}
 use Rattle.text.proofs.writers.write_compressed.Statement.{statement}
@@ -48,79 +47,60 @@ measured : (c : tie.After-compressed-text) → c .compressed-text .result ≡ le
 measured c =
     ends-style _ _ _ _ (rw (c .before .before .before .statement-section .ensures) at (c .compressed-text .ensures)) (arranged (c .before .before .before .before) .list) (arranged (c .before .before .before .before) .says)
 
--- src/writers.rt:43:9
 arrange-requires : tie.Need-arrange-requires
 arrange-requires c κs = record { listable = record { b = c .before .before .before .before .before .before .before .args .labels .now; ok = c .before .before .before .before .before .before .before .pre .0 .ok; enough = c .before .before .before .before .before .before .before .pre .0 .enough }; right = c .before .before .before .before .before .before .before .pre .0 .right; cells-enough = c .before .before .before .before .before .before .before .pre .1 }
 
--- src/writers.rt:46:9
 refused-requires : tie.Need-refused-requires
 refused-requires c κs = search needs
 
--- src/writers.rt:46:9
 same-length : tie.Need-same-length
 same-length c = search needs
 
--- src/writers.rt:46:9
 same-length-2 : tie.Need-same-length-2
 same-length-2 c = search needs
 
--- src/writers.rt:46:9
 returns : tie.Need-returns
 returns c = refused-first _ _ _ _ _ _ _ (c .refused .ensures .0) (c .before .before .before .before .before .before .arrange .ensures .number-is) (c .before .if1 .taken) (c .refused .ensures .1)
 
--- src/writers.rt:56:9
 statement-section-requires : tie.Need-statement-section-requires
 statement-section-requires c κs = header _ (good _ _ (c .before .before .before .before .before .before .before .before .before .before .before .before .before .pre .0 .ok) .ok1)
 
--- src/writers.rt:57:81
 slice-relend-prefix-compressed-text : tie.Need-slice-relend-prefix-compressed-text
 slice-relend-prefix-compressed-text c = search needs
 
--- src/writers.rt:57:81
 slice-aggregate-compressed-text : tie.Need-slice-aggregate-compressed-text
 slice-aggregate-compressed-text c = search needs
 
--- src/writers.rt:57:9
 compressed-text-requires : tie.Need-compressed-text-requires
 compressed-text-requires c κs = (c .before .before .before .before .before .before .before .before .before .before .before .before .before .before .before .before .pre .0 .right, rw (c .before .before .statement-section .ensures) (ready (c .before .before .before)))
 
--- src/writers.rt:59:9
 refused-requires-2 : tie.Need-refused-requires-2
 refused-requires-2 c κs = search needs
 
--- src/writers.rt:59:9
 same-length-3 : tie.Need-same-length-3
 same-length-3 c = search needs
 
--- src/writers.rt:59:9
 same-length-4 : tie.Need-same-length-4
 same-length-4 c = search needs
 
--- src/writers.rt:59:9
 same-length-5 : tie.Need-same-length-5
 same-length-5 c = search needs
 
--- src/writers.rt:59:9
 returns-2 : tie.Need-returns-2
 returns-2 c = no-room _ _ _ _ _ (compressed-late _ _ _ _ (fine (c .before .before .before .before .before .before .before .before))) _ _ _ (c .refused2 .ensures .0) (c .refused2 .ensures .1) (unlent (c .before .before .before .before)) (omega (arith, c .before .if2 .taken, ap length (unlent (c .before .before .before .before)), measured (c .before .before .before .before)))
 
--- src/writers.rt:61:5
 compressed-text-requires-2 : tie.Need-compressed-text-requires-2
 compressed-text-requires-2 c κs = (c .before .before .before .before .before .before .before .before .before .before .before .before .before .before .before .before .before .before .before .before .before .before .pre .0 .right, rw (c .before .before .before .before .before .before .before .before .statement-section .ensures) (ready (c .before .before .before .before .before .before .before .before .before)))
 
--- src/writers.rt:31:1
 same-length-6 : tie.Need-same-length-6
 same-length-6 c = search needs
 
--- src/writers.rt:31:1
 same-length-7 : tie.Need-same-length-7
 same-length-7 c = search needs
 
--- src/writers.rt:31:1
 same-length-8 : tie.Need-same-length-8
 same-length-8 c = search needs
 
--- src/writers.rt:31:1
 returns-3 : tie.Need-returns-3
 returns-3 c =
     fits _ _ _ _ _ (compressed-late _ _ _ _ (fine (c .before .before .before .before .before .before .before .before .before .before .before .before))) _ _ (measured (c .before .before .before .before .before .before .before .before)) (omega (arith, c .before .before .before .before .before .if2 .left, ap length (unlent (c .before .before .before .before .before .before .before .before)), measured (c .before .before .before .before .before .before .before .before)))

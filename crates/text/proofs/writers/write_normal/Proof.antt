@@ -2,17 +2,16 @@
 -- The text of the steps is the style's; measuring is lent no bytes, so it leaves the output as it was.
 use Rattle.text.proofs.Endings.{no-room, fits, too-many, normal-late, over-both}
 use Rattle.text.specs.Styles.{numberOf, explicit-number}
-use Rattle.steptexts.specs.Texts.{Printed, NormalReady, normal-ready, normal-style}
+use Rattle.steptexts.specs.Texts.{normal-ready, normal-style}
 use Rattle.layout.proofs.Free.{none-lent}
 use Rattle.layout.specs.Layouts.{layoutOf}
-use Rattle.defs.specs.Refusals.{bad13, need32}
+use Rattle.defs.specs.Refusals.{bad13}
 use Rattle.defs.specs.Text.{normalOf, isExplicit, stepsText, textOf}
 use lib.ListN.{length}
 use native.Mathlib.Omega.{arith}
-use Prim.Native.Nat.{ℕ, _≤_, _<_}
-use mathlib.Core.List.{List, _++_}
-use mathlib.Core.Bool.{true, false}
-use mathlib.Core.Path.{_≡_, refl, sym, ap, _∙_}
+use mathlib.Core.List.{_++_}
+use mathlib.Core.Bool.{false}
+use mathlib.Core.Path.{_≡_, sym, ap, _∙_}
 use borrow.Author.Needs.{needs}
 use Rattle.text.proofs.writers.write_normal.Statement.{statement}
 use Rattle.text.proofs.writers.write_normal.Tie as tie
@@ -37,67 +36,51 @@ unlent c = none-lent (c .normal-text .last .1 .1 .1 .1 .1 .0) (c .before .before
 measured : (c : tie.After-normal-text) → c .normal-text .result ≡ length (textOf (c .before .before .before .before .before .before .before .before .before .before .before .before .before .args .words .now) (c .before .before .before .before .before .before .before .before .before .before .before .before .before .args .labels .now) (numberOf (c .before .before .before .before .before .before .before .before .before .before .before .before .before .args .style)) (layoutOf (c .before .before .before .before .before .before .before .before .before .before .before .before .before .args .layout)))
 measured c = c .normal-text .ensures .ends ∙ ap length (text-is (c .before .before .before))
 
--- src/writers.rt:126:8
 has-many-steps-requires : tie.Need-has-many-steps-requires
 has-many-steps-requires c κs = record { b = c .before .before .before .before .before .args .labels .now; ok = c .before .before .before .before .before .pre .0 .ok; enough = c .before .before .before .before .before .pre .0 .enough }
 
--- src/writers.rt:127:9
 refused-requires : tie.Need-refused-requires
 refused-requires c κs = search needs
 
--- src/writers.rt:127:9
 same-length : tie.Need-same-length
 same-length c = search needs
 
--- src/writers.rt:127:9
 returns : tie.Need-returns
 returns c = too-many _ _ _ _ _ (c .before .before .before .before .before .before .before .before .before .before .pre .1 .0) (c .before .before .before .before .before .before .before .before .before .before .pre .1 .1) (sym (c .before .before .before .before .has-many-steps .ensures) ∙ c .before .if1 .taken) _ _ (c .refused .ensures .0) (c .refused .ensures .1)
 
--- src/writers.rt:129:9
 explicit-requires : tie.Need-explicit-requires
 explicit-requires c κs = search needs
 
--- src/writers.rt:130:69
 slice-relend-prefix-normal-text : tie.Need-slice-relend-prefix-normal-text
 slice-relend-prefix-normal-text c = search needs
 
--- src/writers.rt:130:69
 slice-aggregate-normal-text : tie.Need-slice-aggregate-normal-text
 slice-aggregate-normal-text c = search needs
 
--- src/writers.rt:130:9
 normal-text-requires : tie.Need-normal-text-requires
 normal-text-requires c κs = (c .before .before .before .before .before .before .before .before .before .before .before .before .pre .0 .right, normal-ready _ _ (c .before .before .before .before .before .before .before .before .before .before .before .before .pre .0 .ok) _ (few (c .before .before .before)) (omega (arith, c .before .before .before .before .before .before .before .before .before .before .before .before .pre .0 .enough, c .before .before .before .before .before .before .has-many-steps .kept .1 .0)))
 
--- src/writers.rt:132:9
 refused-requires-2 : tie.Need-refused-requires-2
 refused-requires-2 c κs = search needs
 
--- src/writers.rt:132:9
 same-length-2 : tie.Need-same-length-2
 same-length-2 c = search needs
 
--- src/writers.rt:132:9
 same-length-3 : tie.Need-same-length-3
 same-length-3 c = search needs
 
--- src/writers.rt:132:9
 returns-2 : tie.Need-returns-2
 returns-2 c = no-room _ _ _ _ _ (normal-late _ _ _ _ _ (c .before .before .before .before .before .before .before .before .before .before .before .before .before .before .before .before .before .before .before .pre .1 .0) (c .before .before .before .before .before .before .before .before .before .before .before .before .before .before .before .before .before .before .before .pre .1 .1) (few (c .before .before .before .before .before .before .before .before .before .before))) _ _ _ (c .refused2 .ensures .0) (c .refused2 .ensures .1) (unlent (c .before .before .before .before .before .before)) (omega (arith, c .before .if2 .taken, ap length (unlent (c .before .before .before .before .before .before)), measured (c .before .before .before .before .before .before)))
 
--- src/writers.rt:134:5
 normal-text-requires-2 : tie.Need-normal-text-requires-2
 normal-text-requires-2 c κs = (c .before .before .before .before .before .before .before .before .before .before .before .before .before .before .before .before .before .before .before .before .pre .0 .right, normal-ready _ _ (c .before .before .before .before .before .before .before .before .before .before .before .before .before .before .before .before .before .before .before .before .pre .0 .ok) _ (few (c .before .before .before .before .before .before .before .before .before .before .before)) (omega (arith, c .before .before .before .before .before .before .before .before .before .before .before .before .before .before .before .before .before .before .before .before .pre .0 .enough, c .before .before .before .before .before .before .before .before .before .before .before .before .before .before .has-many-steps .kept .1 .0, c .before .before .before .before .before .before .before .normal-text .kept .1 .1 .1 .1 .0)))
 
--- src/writers.rt:114:1
 same-length-4 : tie.Need-same-length-4
 same-length-4 c = search needs
 
--- src/writers.rt:114:1
 same-length-5 : tie.Need-same-length-5
 same-length-5 c = search needs
 
--- src/writers.rt:114:1
 returns-3 : tie.Need-returns-3
 returns-3 c =
     fits _ _ _ _ _ (normal-late _ _ _ _ _ (c .before .before .before .before .before .before .before .before .before .before .before .before .before .before .before .before .before .before .before .before .before .before .before .before .before .pre .1 .0) (c .before .before .before .before .before .before .before .before .before .before .before .before .before .before .before .before .before .before .before .before .before .before .before .before .before .pre .1 .1) (few (c .before .before .before .before .before .before .before .before .before .before .before .before .before .before .before .before))) _ _ (measured (c .before .before .before .before .before .before .before .before .before .before .before .before)) (omega (arith, c .before .before .before .before .before .before .before .if2 .left, ap length (unlent (c .before .before .before .before .before .before .before .before .before .before .before .before)), measured (c .before .before .before .before .before .before .before .before .before .before .before .before)))

@@ -2,16 +2,14 @@
 -- The text of the steps is the style's; measuring is lent no bytes, so it leaves the output as it was.
 use Rattle.text.proofs.Endings.{no-room, fits, packed-late, over-both}
 use Rattle.text.specs.Styles.{numberOf, explicit-number}
-use Rattle.steptexts.specs.Texts.{Printed, packed-style}
+use Rattle.steptexts.specs.Texts.{packed-style}
 use Rattle.layout.proofs.Free.{none-lent}
 use Rattle.layout.specs.Layouts.{layoutOf}
 use Rattle.defs.specs.Text.{packedOf, isExplicit, stepsText, textOf}
-use Rattle.laws.specs.Tools.{over}
 use lib.ListN.{length}
 use native.Mathlib.Omega.{arith}
-use Prim.Native.Nat.{ℕ, _≤_, _<_}
-use mathlib.Core.List.{List, _++_}
-use mathlib.Core.Path.{_≡_, refl, sym, ap, _∙_}
+use mathlib.Core.List.{_++_}
+use mathlib.Core.Path.{_≡_, sym, ap, _∙_}
 use borrow.Author.Needs.{needs}
 use Rattle.text.proofs.writers.write_packed.Statement.{statement}
 use Rattle.text.proofs.writers.write_packed.Tie as tie
@@ -32,55 +30,42 @@ unlent c = none-lent (c .packed-text .last .1 .1 .1 .1 .1 .1 .1 .1 .0) (c .befor
 measured : (c : tie.After-packed-text) → c .packed-text .result ≡ length (textOf (c .before .before .before .before .before .before .before .before .before .before .before .before .args .words .now) (c .before .before .before .before .before .before .before .before .before .before .before .before .args .labels .now) (numberOf (c .before .before .before .before .before .before .before .before .before .before .before .before .args .style)) (layoutOf (c .before .before .before .before .before .before .before .before .before .before .before .before .args .layout)))
 measured c = c .packed-text .ensures .ends ∙ ap length (text-is (c .before .before .before .before .before .before .before))
 
--- src/writers.rt:78:9
 explicit-requires : tie.Need-explicit-requires
 explicit-requires c κs = search needs
 
--- src/writers.rt:79:9
 pack-named-requires : tie.Need-pack-named-requires
 pack-named-requires c κs = search needs
 
--- src/writers.rt:92:9
 slice-relend-prefix-packed-text : tie.Need-slice-relend-prefix-packed-text
 slice-relend-prefix-packed-text c = search needs
 
--- src/writers.rt:92:9
 slice-aggregate-packed-text : tie.Need-slice-aggregate-packed-text
 slice-aggregate-packed-text c = search needs
 
--- src/writers.rt:83:9
 packed-text-requires : tie.Need-packed-text-requires
 packed-text-requires c κs = search needs
 
--- src/writers.rt:95:9
 refused-requires : tie.Need-refused-requires
 refused-requires c κs = search needs
 
--- src/writers.rt:95:9
 same-length : tie.Need-same-length
 same-length c = search needs
 
--- src/writers.rt:95:9
 same-length-2 : tie.Need-same-length-2
 same-length-2 c = search needs
 
--- src/writers.rt:95:9
 returns : tie.Need-returns
 returns c = no-room _ _ _ _ _ (packed-late _ _ _ _ _ (c .before .before .before .before .before .before .before .before .before .before .before .before .before .before .before .before .pre .1 .0) (c .before .before .before .before .before .before .before .before .before .before .before .before .before .before .before .before .pre .1 .1)) _ _ _ (c .refused .ensures .0) (c .refused .ensures .1) (unlent (c .before .before .before .before)) (omega (arith, c .before .if1 .taken, ap length (unlent (c .before .before .before .before)), measured (c .before .before .before .before)))
 
--- src/writers.rt:97:5
 packed-text-requires-2 : tie.Need-packed-text-requires-2
 packed-text-requires-2 c κs = search needs
 
--- src/writers.rt:66:1
 same-length-3 : tie.Need-same-length-3
 same-length-3 c = search needs
 
--- src/writers.rt:66:1
 same-length-4 : tie.Need-same-length-4
 same-length-4 c = search needs
 
--- src/writers.rt:66:1
 returns-2 : tie.Need-returns-2
 returns-2 c =
     fits _ _ _ _ _ (packed-late _ _ _ _ _ (c .before .before .before .before .before .before .before .before .before .before .before .before .before .before .before .before .before .before .before .before .pre .1 .0) (c .before .before .before .before .before .before .before .before .before .before .before .before .before .before .before .before .before .before .before .before .pre .1 .1)) _ _ (measured (c .before .before .before .before .before .before .before .before)) (omega (arith, c .before .before .before .before .before .if1 .left, ap length (unlent (c .before .before .before .before .before .before .before .before)), measured (c .before .before .before .before .before .before .before .before)))

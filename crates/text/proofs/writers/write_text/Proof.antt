@@ -1,12 +1,8 @@
 -- `write_text` meets its contract: each style's writer has it.
 -- What a style's functions say is what its number says.
-use Rattle.text.specs.Styles.{compressedIs, packedIs}
-use Rattle.text.specs.Late.{WroteText}
 use Rattle.text.specs.Styles.{numberOf, compressed-number, packed-number, compressed-zero}
 use Rattle.defs.specs.Text.{isCompressed, isPacked}
-use Prim.Native.Nat.{ℕ}
-use mathlib.Core.Bool.{true, false}
-use mathlib.Core.Path.{_≡_, sym, _∙_, subst}
+use mathlib.Core.Path.{_≡_, sym, _∙_}
 use borrow.Author.Needs.{needs}
 use Rattle.text.proofs.writers.write_text.Statement.{statement}
 use Rattle.text.proofs.writers.write_text.Tie as tie
@@ -18,63 +14,48 @@ is-compressed c = sym (compressed-number (c .before .before .before .before .bef
 is-packed : (c : tie.After-packed) → isPacked (numberOf (c .before .before .before .before .before .before .before .before .args .style)) ≡ c .packed .result
 is-packed c = sym (packed-number (c .before .before .before .before .before .before .before .before .args .style)) ∙ sym (c .packed .ensures)
 
--- src/writers.rt:152:8
 compressed-requires : tie.Need-compressed-requires
 compressed-requires c κs = search needs
 
--- src/writers.rt:153:9
 write-compressed-requires : tie.Need-write-compressed-requires
 write-compressed-requires c κs = (c .before .before .before .before .before .before .before .before .before .before .pre .0, c .before .before .before .before .before .before .before .before .before .before .pre .1 (is-compressed (c .before .before .before .before) ∙ c .before .before .before .if1 .taken))
 
--- src/writers.rt:153:9
 same-length : tie.Need-same-length
 same-length c = search needs
 
--- src/writers.rt:153:9
 same-length-2 : tie.Need-same-length-2
 same-length-2 c = search needs
 
--- src/writers.rt:153:9
 same-length-3 : tie.Need-same-length-3
 same-length-3 c = search needs
 
--- src/writers.rt:153:9
 returns : tie.Need-returns
 returns c = rw (compressed-zero _ (sym (c .before .before .before .before .before .before .before .before .before .before .before .compressed .ensures) ∙ c .before .before .before .before .before .before .before .before .before .before .if1 .taken)) (c .before .before .before .before .before .before .write-compressed .ensures)
 
--- src/writers.rt:155:8
 packed-requires : tie.Need-packed-requires
 packed-requires c κs = search needs
 
--- src/writers.rt:156:9
 write-packed-requires : tie.Need-write-packed-requires
 write-packed-requires c κs = (c .before .before .before .before .before .before .before .before .before .before .before .pre .0, (is-compressed (c .before .before .before .before .before) ∙ c .before .before .before .before .if1 .left, is-packed (c .before .before .before) ∙ c .before .before .if2 .taken))
 
--- src/writers.rt:156:9
 same-length-4 : tie.Need-same-length-4
 same-length-4 c = search needs
 
--- src/writers.rt:156:9
 same-length-5 : tie.Need-same-length-5
 same-length-5 c = search needs
 
--- src/writers.rt:156:9
 returns-2 : tie.Need-returns-2
 returns-2 c = search needs
 
--- src/writers.rt:158:5
 write-normal-requires : tie.Need-write-normal-requires
 write-normal-requires c κs = (c .before .before .before .before .before .before .before .before .before .before .before .pre .0, (is-compressed (c .before .before .before .before .before) ∙ c .before .before .before .before .if1 .left, is-packed (c .before .before .before) ∙ c .before .before .if2 .left))
 
--- src/writers.rt:139:1
 same-length-6 : tie.Need-same-length-6
 same-length-6 c = search needs
 
--- src/writers.rt:139:1
 same-length-7 : tie.Need-same-length-7
 same-length-7 c = search needs
 
--- src/writers.rt:139:1
 returns-3 : tie.Need-returns-3
 returns-3 c = search needs
 

@@ -1,25 +1,18 @@
 -- Each case of `explicit` is one case of the words that a step carries.
 -- The parent is the entry's own statement.
 use Rattle.walk.specs.Hyps.{parentOf, indexOf}
-use Rattle.defs.specs.Steps.{parentWord}
-use mathlib.Core.Path.{refl, ap}
+use mathlib.Core.Path.{refl}
 use borrow.Author.Needs.{needs}
 use Rattle.walk.proofs.hyps.child_hyp.Statement.{statement}
 use Rattle.walk.proofs.hyps.child_hyp.Tie as tie
-use Rattle.walk.proofs.hyps.child_hyp.Reads as reads
-use Rattle.walk.proofs.hyps.child_hyp.Lts as lts
-use Rattle.table.proofs.entries.statement_of.Reads as statement-of-reads
 
--- src/hyps.rt:47:24
 statement-of-requires : tie.Need-statement-of-requires
 statement-of-requires c κs = search needs
 
--- src/hyps.rt:41:1
 returns : tie.Need-returns
 unfolding parentOf indexOf
 returns c = rw (c .before .if1 .taken) (rw (c .statement-of .ensures), refl)
 
--- src/hyps.rt:41:1
 returns-2 : tie.Need-returns-2
 unfolding parentOf indexOf
 returns-2 c = rw (c .if1 .left) (refl, refl)

@@ -5,26 +5,19 @@ use native.Mathlib.Omega.{arith}
 use borrow.Author.Needs.{needs}
 use Rattle.walk.proofs.hyps.hyp_words.Statement.{statement}
 use Rattle.walk.proofs.hyps.hyp_words.Tie as tie
-use Rattle.walk.proofs.hyps.hyp_words.Reads as reads
-use Rattle.walk.proofs.hyps.hyp_words.Lts as lts
 
--- src/hyps.rt:25:25
 enum-known-hyp : tie.Need-enum-known-hyp
 enum-known-hyp c = search needs
 
--- src/hyps.rt:26:9
 enum-told : tie.Need-enum-told
 enum-told c = search needs
 
--- src/hyps.rt:26:9
 returns : tie.Need-returns
 returns c = at-root _ (c .enum-told .given .1)
 
--- src/hyps.rt:32:17
 add-t4 : tie.Need-add-t4
 add-t4 c = let h = of-parent _ _ _ (c .before .before .hyp .given .1) in omega (arith, h .0, c .before .before .before .before .pre)
 
--- src/hyps.rt:21:1
 returns-2 : tie.Need-returns-2
 returns-2 c = of-parent _ _ _ (c .before .before .hyp .given .1)
 

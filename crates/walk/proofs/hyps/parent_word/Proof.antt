@@ -6,20 +6,13 @@ use Rattle.walk.proofs.StepLaws.{parent-most}
 use borrow.Author.Needs.{needs}
 use Rattle.walk.proofs.hyps.parent_word.Statement.{statement}
 use Rattle.walk.proofs.hyps.parent_word.Tie as tie
-use Rattle.walk.proofs.hyps.parent_word.Reads as reads
-use Rattle.walk.proofs.hyps.parent_word.Lts as lts
-use Rattle.walk.proofs.hyps.child_hyp.Reads as child-hyp-reads
-use Rattle.walk.proofs.hyps.hyp_words.Reads as hyp-words-reads
 
--- src/hyps.rt:61:27
 child-hyp-requires : tie.Need-child-hyp-requires
 child-hyp-requires c κs = search needs
 
--- src/hyps.rt:61:9
 hyp-words-requires : tie.Need-hyp-words-requires
 hyp-words-requires c κs = omega (arith, c .child-hyp .ensures .0, parent-most (c .before .before .args .explicit) (entryStmtIn (c .before .before .args .entries .now) (c .before .before .args .e .0)), c .before .before .pre .1)
 
--- src/hyps.rt:56:1
 returns : tie.Need-returns
 returns c = search needs
 

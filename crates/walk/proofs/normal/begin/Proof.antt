@@ -6,22 +6,16 @@ use native.Mathlib.Omega.{arith}
 use borrow.Author.Needs.{needs}
 use Rattle.walk.proofs.normal.begin.Statement.{statement}
 use Rattle.walk.proofs.normal.begin.Tie as tie
-use Rattle.walk.proofs.normal.begin.Reads as reads
-use Rattle.walk.proofs.normal.begin.Lts as lts
 
--- src/normal.rt:38:5
 slice-write-stack : tie.Need-slice-write-stack
 slice-write-stack c = search needs
 
--- src/normal.rt:39:5
 slice-write-stack-2 : tie.Need-slice-write-stack-2
 slice-write-stack-2 c = simp length-set (omega arith)
 
--- src/normal.rt:33:1
 same-length : tie.Need-same-length
 same-length c = search needs
 
--- src/normal.rt:33:1
 returns : tie.Need-returns
 returns c =
     let a = c .args in

@@ -1,24 +1,16 @@
 -- The invariant: what is left to come is as it was at the start. The measure: the entry on top, which falls with each push.
 -- A turn pushes the next child (`push`), a return takes the step of the top pair (`popped`).
-use mathlib.Core.Path.{_≡_, refl, sym, ap, ap₂, _∙_}
+use mathlib.Core.Path.{_≡_, refl, ap₂, _∙_}
 use mathlib.Core.List.{List}
-use Prim.Native.Nat.{ℕ, _+_, _*_, _-_, _<_, _≤_}
+use Prim.Native.Nat.{ℕ, _+_, _*_, _-_, _<_}
 use native.Mathlib.Omega.{arith}
 use lib.ListN.{length, length-set}
 use Rattle.defs.specs.Table.{word, maxChildRefs, childStartIn, childCountIn}
-use Rattle.walk.specs.Entries.{size, Entries}
+use Rattle.walk.specs.Entries.{size}
 use Rattle.walk.specs.Normal.{pairSize, entryOn, nextOn, Stacked, left}
-use Rattle.walk.proofs.NormalLaws.{none-left, popped, pushed, push, push-stacked, push-less, push-room}
+use Rattle.walk.proofs.NormalLaws.{none-left, popped, push, push-stacked, push-less, push-room}
 use Rattle.walk.proofs.normal.next.Statement.{statement}
 use Rattle.walk.proofs.normal.next.Tie as tie
-use Rattle.walk.proofs.normal.next.Reads as reads
-use Rattle.walk.proofs.normal.next.Lts as lts
-use Rattle.table.proofs.entries.child.Reads as child-reads
-use Rattle.table.proofs.entries.child_count.Reads as child-count-reads
-use Rattle.table.proofs.entries.child_start.Reads as child-start-reads
-use Rattle.table.proofs.entries.statement_of.Reads as statement-of-reads
-use Rattle.table.proofs.numbers.wide.Reads as wide-reads
-use Rattle.walk.proofs.normal.top_hyp.Reads as top-hyp-reads
 
 abbrev Inv-loop : tie.InvT-loop
 Inv-loop entries children stack₀ explicit depth top₀ stack top =
@@ -56,15 +48,12 @@ child-is : (c : tie.After-child Inv-loop μ-loop)
     → c .child .result .0 ≡ word (kids (c .before .before .before .before .before .before .before .before)) (childStartIn (ents (c .before .before .before .before .before .before .before .before)) (entryOn (c .before .before .before .before .before .before .before .before .loop .stack) (c .before .before .before .before .before .before .before .before .loop .top)) + nextOn (c .before .before .before .before .before .before .before .before .loop .stack) (c .before .before .before .before .before .before .before .before .loop .top))
 child-is c = c .child .ensures ∙ ap₂ (λ (i k : ℕ). word (kids (c .before .before .before .before .before .before .before .before)) (i + k)) (c .before .before .child-start .ensures) (c .before .wide2 .ensures)
 
--- src/normal.rt:75:9
 returns : tie.Need-returns Inv-loop μ-loop
 returns c = none-left _ _ _ _ _ (c .if1 .taken)
 
--- src/normal.rt:77:19
 sub-top : tie.Need-sub-top Inv-loop μ-loop
 sub-top c = omega arith
 
--- src/normal.rt:78:5
 loop-holds : tie.Need-loop-holds Inv-loop μ-loop
 loop-holds c =
     let s = c .before .before .before .before in
@@ -72,123 +61,94 @@ loop-holds c =
     let z : a .depth - 1 + 1 ≡ a .depth = omega arith in
     (rw z refl, (rw z (s .pre .1), (refl, s .pre .1 .falls (a .depth - 1) (omega arith))))
 
--- src/normal.rt:79:18
 mul-at : tie.Need-mul-at Inv-loop μ-loop
 mul-at c = omega arith
 
--- src/normal.rt:80:25
 mul-k : tie.Need-mul-k Inv-loop μ-loop
 mul-k c = omega arith
 
--- src/normal.rt:80:25
 slice-read-k : tie.Need-slice-read-k Inv-loop μ-loop
 slice-read-k c = omega arith
 
--- src/normal.rt:81:23
 add-k : tie.Need-add-k Inv-loop μ-loop
 add-k c = omega arith
 
--- src/normal.rt:81:17
 mul-k-2 : tie.Need-mul-k-2 Inv-loop μ-loop
 mul-k-2 c = omega arith
 
--- src/normal.rt:81:17
 slice-read-k-2 : tie.Need-slice-read-k-2 Inv-loop μ-loop
 slice-read-k-2 c = omega arith
 
--- src/normal.rt:82:12
 child-count-requires : tie.Need-child-count-requires Inv-loop μ-loop
 child-count-requires c κs = omega arith
 
--- src/normal.rt:82:39
 wide-requires : tie.Need-wide-requires Inv-loop μ-loop
 wide-requires c κs = omega arith
 
--- src/normal.rt:84:28
 statement-of-requires : tie.Need-statement-of-requires Inv-loop μ-loop
 statement-of-requires c κs = omega arith
 
--- src/normal.rt:85:22
 top-hyp-requires : tie.Need-top-hyp-requires Inv-loop μ-loop
 top-hyp-requires c κs = c .before .before .before .before .before .before .before .loop .inv .1 .0
 
--- src/normal.rt:83:13
 same-length : tie.Need-same-length Inv-loop μ-loop
 same-length c = omega arith
 
--- src/normal.rt:83:13
 returns-2 : tie.Need-returns-2 Inv-loop μ-loop
 returns-2 c =
     let p = c .before .before .before .before .before .before .before .before in
     popped _ _ (p .before .before .before .before .before .pre .0) _ _ (p .loop .stack) (p .loop .top) (p .loop .inv .0) (omega (arith, c .before .before .before .if2 .taken, c .before .before .before .before .wide .ensures, c .before .before .before .before .before .child-count .ensures)) (p .loop .inv .1 .0) _ _ (c .before .before .statement-of .ensures) (c .top-hyp .ensures .0) (c .top-hyp .ensures .1)
 
--- src/normal.rt:89:33
 child-start-requires : tie.Need-child-start-requires Inv-loop μ-loop
 child-start-requires c κs = omega arith
 
--- src/normal.rt:89:59
 wide-requires-2 : tie.Need-wide-requires-2 Inv-loop μ-loop
 wide-requires-2 c κs = omega arith
 
--- src/normal.rt:89:33
 add-child : tie.Need-add-child Inv-loop μ-loop
 add-child c = omega (arith, more-of (c .before .before), c .before .child-start .ensures, c .wide2 .ensures)
 
--- src/normal.rt:89:13
 child-requires : tie.Need-child-requires Inv-loop μ-loop
 child-requires c κs = omega (arith, more-of (c .before .before), c .before .child-start .ensures, c .wide2 .ensures)
 
--- src/normal.rt:90:25
 add-stack : tie.Need-add-stack Inv-loop μ-loop
 add-stack c = omega (arith, more-of (c .before .before .before))
 
--- src/normal.rt:90:15
 add-stack-2 : tie.Need-add-stack-2 Inv-loop μ-loop
 add-stack-2 c = omega arith
 
--- src/normal.rt:90:9
 mul-stack : tie.Need-mul-stack Inv-loop μ-loop
 mul-stack c = omega arith
 
--- src/normal.rt:90:9
 slice-write-stack : tie.Need-slice-write-stack Inv-loop μ-loop
 slice-write-stack c = omega arith
 
--- src/normal.rt:91:15
 add-stack-3 : tie.Need-add-stack-3 Inv-loop μ-loop
 add-stack-3 c = omega arith
 
--- src/normal.rt:91:9
 mul-stack-2 : tie.Need-mul-stack-2 Inv-loop μ-loop
 mul-stack-2 c = omega arith
 
--- src/normal.rt:91:9
 slice-write-stack-2 : tie.Need-slice-write-stack-2 Inv-loop μ-loop
 slice-write-stack-2 c = simp length-set (omega (arith, more-of (c .before .before .before)))
 
--- src/normal.rt:92:15
 add-stack-4 : tie.Need-add-stack-4 Inv-loop μ-loop
 add-stack-4 c = omega arith
 
--- src/normal.rt:92:9
 mul-stack-3 : tie.Need-mul-stack-3 Inv-loop μ-loop
 mul-stack-3 c = omega arith
 
--- src/normal.rt:92:9
 slice-write-stack-3 : tie.Need-slice-write-stack-3 Inv-loop μ-loop
 slice-write-stack-3 c = simp length-set (omega (arith, more-of (c .before .before .before)))
 
--- src/normal.rt:93:9
 add-top : tie.Need-add-top Inv-loop μ-loop
 add-top c = omega arith
 
--- src/normal.rt:78:5
 loop-less : tie.Need-loop-less Inv-loop μ-loop
 loop-less c =
     let p = c .before .before .before .before .before .before .before .before in
     push-less _ _ (p .before .before .before .before .before .pre .0) (p .loop .stack) (p .loop .top) (p .loop .inv .1 .0) (more-of (c .before .before .before) .more) _ (child-is c)
 
--- src/normal.rt:78:5
 loop-again : tie.Need-loop-again Inv-loop μ-loop
 loop-again c =
     let p = c .before .before .before .before .before .before .before .before in

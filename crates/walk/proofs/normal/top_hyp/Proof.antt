@@ -7,13 +7,10 @@ use Rattle.walk.specs.Hyps.{parentOf, indexOf}
 use lib.ListN.{length}
 use Prim.Native.Nat.{_+_, _*_, _-_, _<_, _≤_}
 use native.Mathlib.Omega.{arith}
-use mathlib.Core.Path.{_≡_, refl, sym, ap, _∙_}
+use mathlib.Core.Path.{sym, _∙_}
 use borrow.Author.Needs.{needs}
 use Rattle.walk.proofs.normal.top_hyp.Statement.{statement}
 use Rattle.walk.proofs.normal.top_hyp.Tie as tie
-use Rattle.walk.proofs.normal.top_hyp.Reads as reads
-use Rattle.walk.proofs.normal.top_hyp.Lts as lts
-use Rattle.walk.proofs.hyps.child_hyp.Reads as child-hyp-reads
 
 -- the pair below the top
 record Below (c : tie.Else1) : Type 0 where
@@ -28,50 +25,39 @@ below c =
     let some : 0 < c .before .before .before .args .top = omega (arith, c .if1 .left) in
     record { some = some; entry = st .falls (c .before .before .before .args .top - 1) (omega arith); begun = st .begun (c .before .before .before .args .top - 1) (omega arith); room = st .room }
 
--- src/normal.rt:49:9
 returns : tie.Need-returns
 unfolding parentOf indexOf
 returns c =
     let a = c .before .before .before .args in
     rw (c .if1 .taken) (sym (root-parent (a .entries .now) (a .explicit) (a .stack .now)), sym (root-index (a .entries .now) (a .explicit) (a .stack .now)))
 
--- src/normal.rt:51:31
 sub-below : tie.Need-sub-below
 sub-below c = search needs
 
--- src/normal.rt:51:17
 mul-below : tie.Need-mul-below
 mul-below c = omega (arith, below c)
 
--- src/normal.rt:55:17
 mul-t7 : tie.Need-mul-t7
 mul-t7 c = omega (arith, below c)
 
--- src/normal.rt:55:17
 shared-slice-read-t9 : tie.Need-shared-slice-read-t9
 shared-slice-read-t9 c = omega (arith, below (c .before))
 
--- src/normal.rt:56:15
 add-child-hyp : tie.Need-add-child-hyp
 add-child-hyp c = omega (arith, below (c .before))
 
--- src/normal.rt:56:9
 mul-child-hyp : tie.Need-mul-child-hyp
 mul-child-hyp c = omega (arith, below (c .before))
 
--- src/normal.rt:56:9
 shared-slice-read-child-hyp : tie.Need-shared-slice-read-child-hyp
 shared-slice-read-child-hyp c = omega (arith, below (c .before .before))
 
--- src/normal.rt:56:9
 sub-child-hyp : tie.Need-sub-child-hyp
 sub-child-hyp c = omega (arith, below (c .before .before))
 
--- src/normal.rt:52:5
 child-hyp-requires : tie.Need-child-hyp-requires
 child-hyp-requires c κs = omega (arith, below (c .before .before))
 
--- src/normal.rt:44:1
 returns-2 : tie.Need-returns-2
 returns-2 c =
     let some : 0 < c .before .before .before .before .before .before .args .top = below (c .before .before .before) .some in

@@ -2,8 +2,7 @@
 -- The measure is the entry's number, which is less at each child. What their loops keep, and that a turn keeps it, is said once, in TurnLaws.
 use mathlib.Core.Path.{_≡_, sym, ap, ap₂, subst, _∙_}
 use mathlib.Core.Logic.{⊎-elim}
-use mathlib.Core.Bool.{Bool, true, false}
-use mathlib.Core.List.{List}
+use mathlib.Core.Bool.{true, false}
 use Prim.Native.Nat.{ℕ, _*_, _-_, _<_, _≤_}
 use native.Mathlib.Omega.{arith}
 use borrow.Author.Tests.{ltb-true, ltb-false}
@@ -12,7 +11,7 @@ use borrow.Fn.PlainCycle.{Measures, is, falls, and}
 use lib.ListN.{length}
 use Rattle.defs.specs.Table.{word, entryWords, childCountIn}
 use Rattle.walk.specs.Marks.{countsBelow}
-use Rattle.walk.specs.Packed.{Held, held, entryAt}
+use Rattle.walk.specs.Packed.{held, entryAt}
 use Rattle.walk.specs.Children.{EntryOf}
 use Rattle.walk.proofs.TurnLaws.{entry-of, Owner, Kept, kept-first, all-listed, in-section, index-fits, child-entry, word-in, below, child-ready, child-room, turn-new, single-room, turn-single}
 use Rattle.walk.proofs.packed.list_children.Reads as list-children

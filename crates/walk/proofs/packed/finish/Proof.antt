@@ -1,6 +1,6 @@
 -- Each return is one case of `finishes`, by the test of the entry's word.
 -- The words that the mark changes lie before the step, so the room for the step is as it was.
-use mathlib.Core.Path.{_≡_, sym, _∙_}
+use mathlib.Core.Path.{sym, _∙_}
 use Prim.Native.Nat.{_+_}
 use native.Mathlib.Omega.{arith}
 use lib.ListN.{length-set}
@@ -10,79 +10,58 @@ use Rattle.walk.proofs.PackedLaws.{finishes-plain, finishes-marked}
 use borrow.Author.Needs.{needs}
 use Rattle.walk.proofs.packed.finish.Statement.{statement}
 use Rattle.walk.proofs.packed.finish.Tie as tie
-use Rattle.walk.proofs.packed.finish.Reads as reads
-use Rattle.walk.proofs.packed.finish.Lts as lts
-use Rattle.walk.proofs.steps.put_step.Reads as put-step-reads
 
--- src/packed.rt:51:14
 cast-at : tie.Need-cast-at
 cast-at c = search needs
 
--- src/packed.rt:51:14
 add-at : tie.Need-add-at
 add-at c = search needs
 
--- src/packed.rt:52:12
 mul-if1 : tie.Need-mul-if1
 mul-if1 c = search needs
 
--- src/packed.rt:52:12
 slice-read-if1 : tie.Need-slice-read-if1
 slice-read-if1 c = search needs
 
--- src/packed.rt:53:20
 slice-read-mark : tie.Need-slice-read-mark
 slice-read-mark c = search needs
 
--- src/packed.rt:53:20
 add-mark : tie.Need-add-mark
 add-mark c = search needs
 
--- src/packed.rt:54:9
 slice-write-work : tie.Need-slice-write-work
 slice-write-work c = search needs
 
--- src/packed.rt:55:20
 add-work : tie.Need-add-work
 add-work c = search needs
 
--- src/packed.rt:55:9
 mul-work : tie.Need-mul-work
 mul-work c = search needs
 
--- src/packed.rt:55:9
 slice-write-work-2 : tie.Need-slice-write-work-2
 slice-write-work-2 c = search needs
 
--- src/packed.rt:56:9
 put-step-requires : tie.Need-put-step-requires
 put-step-requires c κs = search needs
 
--- src/packed.rt:57:16
 add-result : tie.Need-add-result
 add-result c = search needs
 
--- src/packed.rt:57:9
 same-length : tie.Need-same-length
 same-length c = c .before .before .put-step .kept .0 ∙ simp length-set
 
--- src/packed.rt:57:9
 returns : tie.Need-returns
 returns c = rw (c .before .before .put-step .ensures) (sym (finishes-marked _ _ _ _ _ _ (lt-ltb 1 (word (c .before .before .before .before .before .before .before .before .before .args .work .now) (c .before .before .before .before .before .before .before .before .before .args .e .0 + 1)) (omega (arith, c .before .before .before .before .before .if1 .taken)))))
 
--- src/packed.rt:59:5
 put-step-requires-2 : tie.Need-put-step-requires-2
 put-step-requires-2 c κs = search needs
 
--- src/packed.rt:60:5
 add-result-2 : tie.Need-add-result-2
 add-result-2 c = search needs
 
--- src/packed.rt:47:1
 same-length-2 : tie.Need-same-length-2
 same-length-2 c = search needs
 
--- src/packed.rt:47:1
 returns-2 : tie.Need-returns-2
 returns-2 c = rw (c .before .before .put-step2 .ensures) (sym (finishes-plain _ _ _ _ _ _ (le-ltb 1 (word (c .before .before .before .before .before .before .before .before .args .work .now) (c .before .before .before .before .before .before .before .before .args .e .0 + 1)) (omega (arith, c .before .before .before .before .if1 .left)))))
 

@@ -1,53 +1,37 @@
 -- The step put down is the definition's: the mark that the word holds, and the statement where there is none.
 -- Each of its words is what a call ensures.
-use mathlib.Core.Path.{_≡_}
 use Rattle.walk.proofs.PackedLaws.{one-step}
 use borrow.Author.Needs.{needs}
 use Rattle.walk.proofs.packed.list_single.Statement.{statement}
 use Rattle.walk.proofs.packed.list_single.Tie as tie
-use Rattle.walk.proofs.packed.list_single.Reads as reads
-use Rattle.walk.proofs.packed.list_single.Lts as lts
-use Rattle.walk.proofs.marks.mark_in.Reads as mark-in-reads
-use Rattle.walk.proofs.packed.statement_unless.Reads as statement-unless-reads
-use Rattle.walk.proofs.steps.put_step.Reads as put-step-reads
 
--- src/packed.rt:40:14
 cast-at : tie.Need-cast-at
 cast-at c = search needs
 
--- src/packed.rt:40:14
 add-at : tie.Need-add-at
 add-at c = search needs
 
--- src/packed.rt:41:24
 mul-mark-in : tie.Need-mul-mark-in
 mul-mark-in c = search needs
 
--- src/packed.rt:41:24
 slice-read-mark-in : tie.Need-slice-read-mark-in
 slice-read-mark-in c = search needs
 
--- src/packed.rt:41:9
 mark-in-requires : tie.Need-mark-in-requires
 mark-in-requires c κs = search needs
 
--- src/packed.rt:42:34
 statement-unless-requires : tie.Need-statement-unless-requires
 statement-unless-requires c κs = search needs
 
--- src/packed.rt:42:5
 put-step-requires : tie.Need-put-step-requires
 put-step-requires c κs = search needs
 
--- src/packed.rt:43:5
 add-result : tie.Need-add-result
 add-result c = search needs
 
--- src/packed.rt:36:1
 same-length : tie.Need-same-length
 same-length c = search needs
 
--- src/packed.rt:36:1
 returns : tie.Need-returns
 returns c = rw (c .before .before .put-step .ensures) (one-step _ _ _ _ _ _ _ (c .before .before .before .before .before .mark-in .ensures) (c .before .before .before .before .statement-unless .ensures))
 

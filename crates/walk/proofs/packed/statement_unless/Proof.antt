@@ -1,18 +1,13 @@
 -- The two cases of the definition are the two returns.
 -- The test's fact is handed to omega.
-use mathlib.Core.Path.{_≡_, sym}
 use native.Mathlib.Omega.{arith}
 use borrow.Author.Tests.{eq-eqb, ne-eqb}
 use Rattle.walk.proofs.packed.statement_unless.Statement.{statement}
 use Rattle.walk.proofs.packed.statement_unless.Tie as tie
-use Rattle.walk.proofs.packed.statement_unless.Reads as reads
-use Rattle.walk.proofs.packed.statement_unless.Lts as lts
 
--- src/packed.rt:31:1
 returns : tie.Need-returns
 returns c = rw (eq-eqb (c .before .args .mark) 0 (omega (arith, c .if1 .taken)))
 
--- src/packed.rt:31:1
 returns-2 : tie.Need-returns-2
 returns-2 c = rw (ne-eqb (c .before .args .mark) 0 (c .if1 .left))
 

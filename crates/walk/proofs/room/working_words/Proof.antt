@@ -5,51 +5,37 @@ use native.Mathlib.Omega.{arith}
 use borrow.Author.Needs.{needs}
 use Rattle.walk.proofs.room.working_words.Statement.{statement}
 use Rattle.walk.proofs.room.working_words.Tie as tie
-use Rattle.walk.proofs.room.working_words.Reads as reads
-use Rattle.walk.proofs.room.working_words.Lts as lts
-use Rattle.table.proofs.numbers.wide.Reads as wide-reads
 
--- src/room.rt:12:15
 shared-slice-read-wide : tie.Need-shared-slice-read-wide
 shared-slice-read-wide c = search needs
 
--- src/room.rt:12:10
 wide-requires : tie.Need-wide-requires
 wide-requires c κs = search needs
 
--- src/room.rt:12:32
 shared-slice-read-wide-2 : tie.Need-shared-slice-read-wide-2
 shared-slice-read-wide-2 c = search needs
 
--- src/room.rt:12:27
 wide-requires-2 : tie.Need-wide-requires-2
 wide-requires-2 c κs = search needs
 
--- src/room.rt:12:10
 add-result : tie.Need-add-result
 add-result c = search needs
 
--- src/room.rt:12:49
 shared-slice-read-wide-3 : tie.Need-shared-slice-read-wide-3
 shared-slice-read-wide-3 c = search needs
 
--- src/room.rt:12:44
 wide-requires-3 : tie.Need-wide-requires-3
 wide-requires-3 c κs = search needs
 
--- src/room.rt:12:10
 add-result-2 : tie.Need-add-result-2
 add-result-2 c = search needs
 
--- src/room.rt:12:10
 add-result-3 : tie.Need-add-result-3
 add-result-3 c = search needs
 
--- src/room.rt:12:5
 mul-result : tie.Need-mul-result
 mul-result c = search needs
 
--- src/room.rt:8:1
 returns : tie.Need-returns
 unfolding need32
 returns c = omega (arith, c .before .before .before .before .wide .ensures, c .before .before .wide2 .ensures, c .wide3 .ensures)

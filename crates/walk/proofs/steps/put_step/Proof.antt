@@ -6,70 +6,52 @@ use native.Mathlib.Omega.{arith}
 use borrow.Author.Needs.{needs}
 use Rattle.walk.proofs.steps.put_step.Statement.{statement}
 use Rattle.walk.proofs.steps.put_step.Tie as tie
-use Rattle.walk.proofs.steps.put_step.Reads as reads
-use Rattle.walk.proofs.steps.put_step.Lts as lts
 
--- src/steps.rt:27:5
 mul-list : tie.Need-mul-list
 mul-list c = search needs
 
--- src/steps.rt:27:5
 slice-write-list : tie.Need-slice-write-list
 slice-write-list c = search needs
 
--- src/steps.rt:28:10
 add-list : tie.Need-add-list
 add-list c = search needs
 
--- src/steps.rt:28:5
 mul-list-2 : tie.Need-mul-list-2
 mul-list-2 c = search needs
 
--- src/steps.rt:28:5
 slice-write-list-2 : tie.Need-slice-write-list-2
 slice-write-list-2 c = simp length-set (omega arith)
 
--- src/steps.rt:29:10
 add-list-2 : tie.Need-add-list-2
 add-list-2 c = search needs
 
--- src/steps.rt:29:5
 mul-list-3 : tie.Need-mul-list-3
 mul-list-3 c = search needs
 
--- src/steps.rt:29:5
 slice-write-list-3 : tie.Need-slice-write-list-3
 slice-write-list-3 c = simp length-set (omega arith)
 
--- src/steps.rt:30:10
 add-list-3 : tie.Need-add-list-3
 add-list-3 c = search needs
 
--- src/steps.rt:30:5
 mul-list-4 : tie.Need-mul-list-4
 mul-list-4 c = search needs
 
--- src/steps.rt:30:5
 slice-write-list-4 : tie.Need-slice-write-list-4
 slice-write-list-4 c = simp length-set (omega arith)
 
--- src/steps.rt:31:10
 add-list-4 : tie.Need-add-list-4
 add-list-4 c = search needs
 
--- src/steps.rt:31:5
 mul-list-5 : tie.Need-mul-list-5
 mul-list-5 c = search needs
 
--- src/steps.rt:31:5
 slice-write-list-5 : tie.Need-slice-write-list-5
 slice-write-list-5 c = simp length-set (omega arith)
 
--- src/steps.rt:14:1
 same-length : tie.Need-same-length
 same-length c = search needs
 
--- src/steps.rt:14:1
 returns : tie.Need-returns
 returns c = five-stores _ _ _ _ _ _ _ (c .pre)
 
