@@ -1,12 +1,12 @@
 // The packed list of a table: tests 1 to 7, 14, 15.
 use crate::answers::ended;
 use crate::answers::refused;
+use packing::pack::pack;
 use slices::copy::copy_to;
 use table::Written;
 use table::header::read_header;
 use table::numbers::wide;
 use table_check::check;
-use walk::packed::pack;
 use walk::room::working_words;
 ghost use mathlib.Core.Path.{_≡_};
 ghost use mathlib.Core.List.{[], _∷_};

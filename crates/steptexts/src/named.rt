@@ -1,9 +1,9 @@
 // The packed list of a table in the working slice, and after it the names of its marks: what a packed text is written from.
 use names::marks::mark_names;
+use packing::pack::pack;
 use table::header::read_header;
 use table::numbers::wide;
 use table::sections::statement_section;
-use walk::packed::pack;
 use walk::steps::STEP_WORDS;
 ghost use mathlib.Core.Path.{_≡_};
 ghost use Prim.Native.Nat.{_≤_};

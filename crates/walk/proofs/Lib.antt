@@ -1,6 +1,4 @@
 -- What the proofs of several functions use.
 pub mod StepLaws
-mod PackedLaws
-mod TurnLaws
+pub mod OwnLaws
 mod NormalLaws
-mod BeginLaws

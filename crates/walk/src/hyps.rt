@@ -61,11 +61,3 @@ pub fn parent_word(entries: &[u32], explicit: bool, e: EntryNo) -> u32
     let words = hyp_words(child_hyp(entries, explicit, e, 0));
     words.parent
 }
-
-// The index word of the child after one whose index word is `index`: in a list that is not explicit it stays 0.
-pub fn next_index(explicit: bool, index: u32) -> u32
-    requires { ⌜ index < maxWord ⌝ }
-    ensures { λ r. ⌜ r ≡ index + indexWord explicit 1 ⌝ }
-{
-    if explicit { index + 1 } else { index }
-}

@@ -5,10 +5,10 @@ use Prim.Native.Nat.{_-_}
 use lib.ListN.{length}
 use borrow.Rule.Slice.PartMut.{midOf, mid-len}
 use Rattle.counts.specs.Parents.{timesEach}
-use Rattle.walk.proofs.BeginLaws.{counted}
+use Rattle.packing.proofs.BeginLaws.{counted}
 use borrow.Author.Needs.{needs}
-use Rattle.walk.proofs.packed.begin.Statement.{statement}
-use Rattle.walk.proofs.packed.begin.Tie as tie
+use Rattle.packing.proofs.pack.begin.Statement.{statement}
+use Rattle.packing.proofs.pack.begin.Tie as tie
 
 sub-count-parents : tie.Need-sub-count-parents
 sub-count-parents c = search needs

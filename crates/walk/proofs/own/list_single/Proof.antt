@@ -1,9 +1,9 @@
 -- The step put down is the definition's: the mark that the word holds, and the statement where there is none.
 -- Each of its words is what a call ensures.
-use Rattle.walk.proofs.PackedLaws.{one-step}
+use Rattle.walk.proofs.OwnLaws.{one-step}
 use borrow.Author.Needs.{needs}
-use Rattle.walk.proofs.packed.list_single.Statement.{statement}
-use Rattle.walk.proofs.packed.list_single.Tie as tie
+use Rattle.walk.proofs.own.list_single.Statement.{statement}
+use Rattle.walk.proofs.own.list_single.Tie as tie
 
 cast-at : tie.Need-cast-at
 cast-at c = search needs

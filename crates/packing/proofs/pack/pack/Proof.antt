@@ -6,12 +6,12 @@ use Prim.Native.Nat.{ℕ, _+_, _/_}
 use native.Mathlib.Omega.{arith}
 use lib.ListN.{length}
 use Rattle.defs.specs.Table.{entryWords, childWords, childCountIn, entryStmtIn}
 use Rattle.walk.specs.Packed.{held, Begun, Counted}
-use Rattle.walk.proofs.PackedLaws.{root-alone, root-single, root-ready, root-room, root-packed}
-use Rattle.walk.proofs.BeginLaws.{countable}
+use Rattle.packing.proofs.PackedLaws.{root-alone, root-single, root-ready, root-room, root-packed}
+use Rattle.packing.proofs.BeginLaws.{countable}
 use borrow.Author.Needs.{needs}
-use Rattle.walk.proofs.packed.pack.Statement.{statement}
-use Rattle.walk.proofs.packed.pack.Tie as tie
+use Rattle.packing.proofs.pack.pack.Statement.{statement}
+use Rattle.packing.proofs.pack.pack.Tie as tie
 
 -- the words are right before the walk of the table's entries
 begun : (c : tie.After-begin) → Begun (entryWords (c .before .before .before .before .before .before .args .t1 .now)) (childWords (c .before .before .before .before .before .before .args .t1 .now))

@@ -20,30 +20,14 @@ use Rattle.defs.specs.Steps.{Step, stepSize, stepWords, flat, Walk, markOf, par
 use Rattle.defs.specs.Laws.{flat-append, flat-length}
 use Rattle.defs.specs.Sections.{EntriesOk, child-at}
 use Rattle.lengths.specs.Bound.{Grown, longer, refer-one, visit-grows, afterChildren, children-none, children-next, visit-met, visit-new, child-within, children-within, children-room, child-depth}
 use Rattle.walk.specs.Entries.{size, kids-length, kid-below, entries-fall}
 use Rattle.walk.specs.Marks.{countsBelow, marked}
 use Rattle.walk.specs.Steps.{step, withStep}
 use Rattle.walk.specs.Packed.{Held, held, entryAt, stepsFrom, single, finishes, Room, Stands, Fits, visitFrom, Visitable, Ready, Listed, Visited, walkStart, Begun, Packable, Packed}
+use Rattle.walk.proofs.OwnLaws.{finishes-plain, finishes-marked}
 use Rattle.walk.proofs.StepLaws.{before-step, step-more}
-
--- ---- the own step of an entry
-
-module _ (gets : Bool) (e statement parent index : ℕ) (h : Held) where
-  pub finishes-plain : gets ≡ false → finishes gets e statement parent index h ≡ held (withStep (h .words) (h .end) (step 0 0 statement parent index)) (h .end + stepSize)
-  unfolding finishes
-  finishes-plain z = rw z
-
-  pub finishes-marked : gets ≡ true → let next : ℕ = word (h .words) 0 + 1 in finishes gets e statement parent index h
-      ≡ held (withStep (set (set (h .words) 0 next) (entryAt e) (marked + next)) (h .end) (step 0 next statement parent index)) (h .end + stepSize)
-  unfolding finishes
-  finishes-marked z = rw z
 
 -- ---- the one step of an entry that lists no children first
-
-pub one-step : (e statement parent index mark own : ℕ) (h : Held) → mark ≡ word (h .words) (entryAt e) - marked → own ≡ pick (eqb mark 0) statement 0
-    → held (withStep (h .words) (h .end) (step mark 0 own parent index)) (h .end + stepSize) ≡ single e statement parent index h
-unfolding single
-one-step e statement parent index mark own h is own-is = rw (own-is, is)
 
 -- without a mark it is its own
 single-own : (e statement parent index : ℕ) (h : Held) → word (h .words) (entryAt e) - marked ≡ 0 → single e statement parent index h ≡ finishes false e statement parent index h

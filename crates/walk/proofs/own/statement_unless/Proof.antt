@@ -2,8 +2,8 @@
 -- The test's fact is handed to omega.
 use native.Mathlib.Omega.{arith}
 use borrow.Author.Tests.{eq-eqb, ne-eqb}
-use Rattle.walk.proofs.packed.statement_unless.Statement.{statement}
-use Rattle.walk.proofs.packed.statement_unless.Tie as tie
+use Rattle.walk.proofs.own.statement_unless.Statement.{statement}
+use Rattle.walk.proofs.own.statement_unless.Tie as tie
 
 returns : tie.Need-returns
 returns c = rw (eq-eqb (c .before .args .mark) 0 (omega (arith, c .if1 .taken)))

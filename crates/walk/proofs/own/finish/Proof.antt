@@ -6,10 +6,10 @@ use native.Mathlib.Omega.{arith}
 use lib.ListN.{length-set}
 use borrow.Author.Tests.{lt-ltb, le-ltb}
 use Rattle.defs.specs.Table.{word}
-use Rattle.walk.proofs.PackedLaws.{finishes-plain, finishes-marked}
+use Rattle.walk.proofs.OwnLaws.{finishes-plain, finishes-marked}
 use borrow.Author.Needs.{needs}
-use Rattle.walk.proofs.packed.finish.Statement.{statement}
-use Rattle.walk.proofs.packed.finish.Tie as tie
+use Rattle.walk.proofs.own.finish.Statement.{statement}
+use Rattle.walk.proofs.own.finish.Tie as tie
 
 cast-at : tie.Need-cast-at
 cast-at c = search needs

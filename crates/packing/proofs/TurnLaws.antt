@@ -10,11 +10,11 @@ use lib.Dec.{ltb}
 use Rattle.defs.specs.Table.{word, maxWord, maxChildRefs, entryStmtIn, childStartIn, childCountIn, entryWords, childWords}
 use Rattle.defs.specs.Checked.{HeaderOk}
 use Rattle.defs.specs.Steps.{parentWord, indexWord}
 use Rattle.walk.specs.Marks.{countsBelow, marked}
 use Rattle.walk.specs.Packed.{Held, entryAt, single, finishes, Room, Visitable, Ready, Listed, ListedAll, Visited}
 use Rattle.walk.specs.Children.{EntryOf, ChildrenOf}
 use Rattle.walk.proofs.StepLaws.{index-next, index-most}
-use Rattle.walk.proofs.PackedLaws.{Child, no-children, child-visitable, next-child, room-last, visited-new, room-single, visited-single}
+use Rattle.packing.proofs.PackedLaws.{Child, no-children, child-visitable, next-child, room-last, visited-new, room-single, visited-single}
 
 -- a ready entry is one of its table
 pub entry-of : (w : List ℕ) (explicit : Bool) (e : ℕ) (h : Held) → HeaderOk w → Ready (entryWords w) (childWords w) explicit e h → EntryOf w e
