@@ -28,6 +28,7 @@ static uint32_t run_check(void) { return bulonkeri_check(words, words_n, labels,
 static uint32_t run_parents(void) { return bulonkeri_parents(words, words_n, labels, labels_n, out, out_n, &written); }
 static uint32_t run_distances(void) { return bulonkeri_distances(words, words_n, labels, labels_n, out16, out_n, &written); }
 static uint32_t run_packed(void) { return bulonkeri_packed_list(words, words_n, labels, labels_n, false, work, work_n, out, out_n, &written); }
+static uint32_t run_explicit(void) { return bulonkeri_packed_list(words, words_n, labels, labels_n, true, work, work_n, out, out_n, &written); }
 static uint32_t run_normal(void) { return bulonkeri_normal_list(words, words_n, labels, labels_n, false, work, work_n, out, out_n, &written); }
 
 /* The standard layout: width 79, indent 6, first position 0. */
@@ -120,6 +121,7 @@ int main(int count, char **arguments) {
     show("parents", run_parents);
     show("dist", run_distances);
     show("packed", run_packed);
+    show("pexplicit", run_explicit);
     show("normal", run_normal);
     show_letters();
     show_text("text0", 0); show_text("text1", 1); show_text("text2", 2); show_text("text3", 3); show_text("text4", 4);

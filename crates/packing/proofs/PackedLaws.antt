@@ -7,12 +7,12 @@ use mathlib.Core.List.{List, [], _∷_, _++_, append-nil}
 use Prim.Native.Nat.{ℕ, suc, _+_, _*_, _-_, _≤_, _<_}
 use native.Mathlib.Omega.{arith}
 use native.Mathlib.Decide.{ℕ-discrete}
-use lib.Dec.{eqb, ltb}
+use lib.Dec.{ltb}
 use lib.ListN.{length, getD, take, set, length-append, length-set}
 use lib.Seq.{getD-set-same, getD-set-other, drop-set-lt}
 use borrow.Author.Tests.{ne-eqb, lt-ltb}
 use Rattle.laws.specs.Lists.{boole, clash}
-use Rattle.laws.specs.Tools.{pick, part}
+use Rattle.laws.specs.Tools.{part}
 use Rattle.defs.specs.Table.{word, maxChildRefs, childStartIn, childCountIn, entryStmtIn}
 use Rattle.defs.specs.Graph.{Graph, graphIn}
 use Rattle.defs.specs.Counts.{parents}
