@@ -2,14 +2,14 @@
 ghost use Rattle.std.specs.Prelude.{◌≡◌};
 ghost use Rattle.answers.specs.Left.{refusal, success, refusal_two, success_two};
 
-#[derive(Drop)]
+#[derive(Clone, Copy)]
 pub struct Written {
     pub number: u32,
     pub length: usize,
 }
 
 // The answer of an operation with two outputs.
-#[derive(Drop)]
+#[derive(Clone, Copy)]
 pub struct WrittenTwo {
     pub number: u32,
     pub first: usize,

@@ -8,7 +8,7 @@ ghost use Rattle.blocks.specs.Counted.{Counted};
 const CUTOFFS: [u32; 5] = [20, 100, 500, 2500, 12500];
 
 // The count i since the last cutoff, and which cutoff is in force.
-#[derive(Drop)]
+#[derive(Clone, Copy)]
 pub struct Counter {
     pub i: usize,
     pub level: usize,

@@ -11,7 +11,7 @@ ghost use Rattle.blocks.specs.Line.{members_at, others, Once, is_next, position_
 ghost use Rattle.blocks.specs.State.{Ready, LineDone};
 
 // The line position, where the next index is emitted, and how many members of the block are left.
-#[derive(Drop)]
+#[derive(Clone, Copy)]
 pub struct Line {
     pub position: usize,
     pub at: usize,

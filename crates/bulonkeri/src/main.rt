@@ -1,5 +1,6 @@
 // The program `bulonkeri COMMAND FILE ..`: reads a table file and prints what an operation of the library answers.
 // A program has no exit status, so the first word of its output says which it was: done, differ, refused, too (large), error, or usage.
+#![tactic(auto)]
 mod asked; // asked.rt: which command is asked for
 mod checking; // checking.rt: the command check
 mod clean; // clean.rt: the command clean

@@ -10,7 +10,7 @@ ghost use Rattle.choice.specs.Choice.{Chosen};
 use crate::totals::fill;
 
 // The places of the chosen items stand in the lent cells from `start` on, ascending. Together the items cost `total`.
-#[derive(Drop)]
+#[derive(Clone, Copy)]
 pub struct Choice {
     pub start: usize,
     pub total: usize,

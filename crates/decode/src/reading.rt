@@ -11,7 +11,7 @@ use letters::number::{Number, finish, lead};
 const LARGEST: u32 = 4294967295;
 
 // Where the reading stands.
-#[derive(Drop)]
+#[derive(Clone, Copy)]
 pub struct Decoder {
     // What is kept of the value of the leading letters (0: none).
     pub pending: u32,
@@ -23,14 +23,14 @@ pub struct Decoder {
 }
 
 // After one more letter.
-#[derive(Drop)]
+#[derive(Clone, Copy)]
 pub enum Turn {
     Goes(Decoder),
     Refused,
 }
 
 // After all letters.
-#[derive(Drop)]
+#[derive(Clone, Copy)]
 pub enum Decoded {
     Steps(usize),
     Refused,

@@ -9,7 +9,7 @@ ghost use Rattle.decode.specs.Decoding.{step_of, StepPut, MarkPut};
 pub const STEP_WORDS: usize = 5;
 
 // A step that has no mark yet. The list is not explicit, so its last two words are 0.
-#[derive(Drop)]
+#[derive(Clone, Copy)]
 pub struct NamedStep {
     pub reference: u32,
     pub statement: u32,

@@ -1,5 +1,6 @@
 // The deepest table that document 01 allows, walked within a program's stack: 8,192 entries, each the only child of the next. It prints
 // what the explicit packed list answers, and its first and last step.
+#![tactic(auto)]
 ghost use Rattle.std.specs.Prelude.{◌+◌, ◌≤◌};
 
 use libc::STDOUT_FILENO;

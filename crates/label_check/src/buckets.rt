@@ -17,7 +17,7 @@ const BASE: usize = 131;
 const HASHES: usize = 4294967296;
 
 // Where a label falls: its bucket, and its print there.
-#[derive(Drop)]
+#[derive(Clone, Copy)]
 pub struct Fall {
     pub bucket: usize,
     pub print: u8,

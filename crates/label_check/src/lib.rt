@@ -1,4 +1,6 @@
 // Test 3 of the table's check: the label bytes, and two equal labels.
+#![tactic(auto)]
+
 mod buckets; // buckets.rt: labels told apart by a hash of their bytes
 mod bytes; // bytes.rt: which bytes a label may have
 mod equal; // equal.rt: a label compared with that of a statement

@@ -1,1 +1,3 @@
 // This crate is its specs/.
+
+#![tactic(auto)]

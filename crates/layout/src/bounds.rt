@@ -3,7 +3,7 @@ ghost use Rattle.std.specs.Prelude.{◌≡◌, false, ◌-◌};
 ghost use Rattle.defs.specs.Layout.{bad8, line_room, standard};
 ghost use Rattle.layout.specs.Layouts.{layout_of};
 
-#[derive(Drop)]
+#[derive(Clone, Copy)]
 pub struct Layout {
     pub width: u32,
     pub indent: u32,

@@ -1,1 +1,3 @@
 // This crate is its specs/: how long a packed list is.
+
+#![tactic(auto)]

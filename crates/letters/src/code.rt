@@ -5,7 +5,7 @@ ghost use Rattle.laws.specs.Puts.{farthest, Put, Placed};
 ghost use Rattle.letters.specs.Most.{most_letters};
 
 // Its letters stand at the end of the array, from `start` on.
-#[derive(Drop)]
+#[derive(Clone, Copy)]
 pub struct Code {
     pub letters: [u8; Code::MOST],
     pub start: usize,

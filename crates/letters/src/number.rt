@@ -10,7 +10,7 @@ const LARGEST: u64 = 4294967295;
 const CAP: u32 = 214748365;
 
 // What a finished code says.
-#[derive(Drop)]
+#[derive(Clone, Copy)]
 pub enum Number {
     Of(u32),
     TooLarge,

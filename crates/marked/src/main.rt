@@ -1,6 +1,7 @@
 // Document 01's table E, and E plus an unreachable entry, through the code: parents, distances, the four step lists, the letters read
 // back, label list and letters, the five texts; then its other marked cases and run values. Crate defs proves what the definitions
 // give for the marked cases; here the code is run, and what it prints is stored.
+#![tactic(auto)]
 use layout::Layout;
 use libc::STDOUT_FILENO;
 

@@ -5,7 +5,7 @@ ghost use Rattle.laws.specs.Puts.{farthest, Put, Placed};
 ghost use Rattle.names.specs.Decimals.{most_digits};
 
 // Its digits stand at the end of the array, from `start` on.
-#[derive(Drop)]
+#[derive(Clone, Copy)]
 pub struct Decimal {
     pub digits: [u8; Decimal::MOST],
     pub start: usize,

@@ -20,13 +20,13 @@ use theorem::hypotheses::{mixed, theorem_list};
 use walk::steps::STEP_WORDS;
 
 // Where the packed list ends, and how many statements are listed.
-#[derive(Drop)]
+#[derive(Clone, Copy)]
 pub struct Listed {
     pub end: usize,
     pub count: usize,
 }
 
-#[derive(Drop)]
+#[derive(Clone, Copy)]
 pub struct Arranged {
     // 0, or the refusal: then the rest says nothing
     pub number: u32,

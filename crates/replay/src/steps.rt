@@ -7,7 +7,7 @@ use table::numbers::wide;
 
 pub const STEP_WORDS: usize = 5;
 
-#[derive(Drop)]
+#[derive(Clone, Copy)]
 pub struct Step {
     pub reference: u32,
     pub mark: u32,

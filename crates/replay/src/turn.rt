@@ -16,14 +16,14 @@ use table::statements::hyp_count;
 use table::{EntryNo, StatementNo};
 
 // Where a replay stands: what is built, the items on the stack, and the marks given.
-#[derive(Drop)]
+#[derive(Clone, Copy)]
 pub struct State {
     pub store: Store,
     pub height: usize,
     pub marks: usize,
 }
 
-#[derive(Drop)]
+#[derive(Clone, Copy)]
 pub enum Turn {
     Refused(u32),
     Going(State),

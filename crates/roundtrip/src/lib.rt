@@ -1,1 +1,3 @@
 // This crate is its specs/: demand 3, stated and proved.
+
+#![tactic(auto)]

@@ -1,3 +1,5 @@
 // Slices filled and copied, for every crate that writes.
+#![tactic(auto)]
+
 pub mod copy;
 pub mod fill;

@@ -12,7 +12,7 @@ use table::sections::statement_section;
 use walk::steps::STEP_WORDS;
 
 // Where they stand: the first step, how many there are, and the names.
-#[derive(Drop)]
+#[derive(Clone, Copy)]
 pub struct Places {
     pub steps: usize,
     pub many: usize,

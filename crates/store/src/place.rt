@@ -10,13 +10,13 @@ use table::limits::{ENTRY_WORDS, MAX_CHILD_REFS, MAX_ENTRIES};
 use table::{EntryNo, StatementNo};
 
 // How much of the two outputs is built: words of entries, and references.
-#[derive(Drop)]
+#[derive(Clone, Copy)]
 pub struct Store {
     pub built: usize,
     pub kids: usize,
 }
 
-#[derive(Drop)]
+#[derive(Clone, Copy)]
 pub enum Placed {
     At(EntryNo, Store),
     NoRoom,

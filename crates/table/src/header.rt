@@ -6,7 +6,7 @@ ghost use Rattle.table.specs.Headers.{HeaderIs};
 
 use crate::numbers::{EntryNo, StatementNo, wide};
 
-#[derive(Drop)]
+#[derive(Clone, Copy)]
 pub struct Header {
     pub statements: u32,
     pub references: usize,

@@ -1,4 +1,6 @@
 // The table of document 01: its limits, its two kinds of number, its header, sections and records, and the form of an answer.
+#![tactic(auto)]
+
 pub mod answers;
 pub mod entries;
 pub mod header;

@@ -13,7 +13,7 @@ use table::statements::{
 };
 
 // What the statements before one have taken of the label bytes and of the hypothesis references: the running sums.
-#[derive(Drop)]
+#[derive(Clone, Copy)]
 struct Taken {
     labels: usize,
     hyps: usize,

@@ -2,7 +2,7 @@
 ghost use Rattle.std.specs.Prelude.{◌≡◌};
 ghost use Rattle.text.specs.Styles.{compressed_is, packed_is, explicit_is, StyleIs};
 
-#[derive(Drop)]
+#[derive(Clone, Copy)]
 pub enum Style {
     Compressed,
     Normal,
@@ -12,7 +12,7 @@ pub enum Style {
 }
 
 // A style read from its number; refusal 9 where no style has it.
-#[derive(Drop)]
+#[derive(Clone, Copy)]
 pub enum StyleRead {
     Known(Style),
     Unknown,

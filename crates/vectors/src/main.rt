@@ -1,5 +1,6 @@
 // Stored answers of the Rust for tables of all sizes, each compared with what the library answers. Standard input has them; a line is
 // printed for each that differs, and at the end how many there were. tests/vectors makes the data.
+#![tactic(auto)]
 mod answers; // answers.rt: what the library answers
 mod compare; // compare.rt: the stored answers of one table, compared
 mod hash; // hash.rt: the hash by which an answer is stored

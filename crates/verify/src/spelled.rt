@@ -8,7 +8,7 @@ use layout::Layout;
 use order::label_letters;
 
 // A stage that refused, with its number, or how many words the decoded steps fill.
-#[derive(Drop)]
+#[derive(Clone, Copy)]
 pub enum Spelled {
     Refused(Stage, u32),
     Steps(usize),

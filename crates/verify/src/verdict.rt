@@ -1,7 +1,7 @@
 // What the comparison of the three ways answers.
 
 // The operations in the order in which they are called.
-#[derive(Drop)]
+#[derive(Clone, Copy)]
 pub enum Stage {
     PackedList,
     PackedRead,
@@ -13,7 +13,7 @@ pub enum Stage {
 }
 
 // Refused: the operation of this stage gave that number of document 01. Differ: what it wrote is not what the packed list gave.
-#[derive(Drop)]
+#[derive(Clone, Copy)]
 pub enum Verdict {
     Agree,
     Refused(Stage, u32),

@@ -10,7 +10,7 @@ use lists::packed::packed_list;
 use replay::replay;
 
 // How many words the packed list filled, how many the entries that it was read as, how many their children.
-#[derive(Drop)]
+#[derive(Clone, Copy)]
 pub struct Kept {
     pub packed: usize,
     pub built: usize,
@@ -18,7 +18,7 @@ pub struct Kept {
 }
 
 // A verdict already, or what there is to compare with.
-#[derive(Drop)]
+#[derive(Clone, Copy)]
 pub enum Lists {
     Ended(Verdict),
     Read(Kept),

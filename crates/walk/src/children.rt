@@ -14,7 +14,7 @@ use table::sections::{child_section, entry_section};
 use table::{EntryNo, StatementNo};
 
 // Where the children of an entry stand in the child section, and the parent word that each carries.
-#[derive(Drop)]
+#[derive(Clone, Copy)]
 pub struct Children {
     pub first: usize,
     pub until: usize,

@@ -9,13 +9,13 @@ use table::entries::statement_of;
 use table::{EntryNo, StatementNo};
 
 // The root, or the place that a step has among the hypotheses of its parent.
-#[derive(Drop)]
+#[derive(Clone, Copy)]
 pub enum ParentHyp {
     Root,
     Of { statement: StatementNo, index: u32 },
 }
 
-#[derive(Drop)]
+#[derive(Clone, Copy)]
 pub struct HypWords {
     pub parent: u32,
     pub index: u32,

@@ -13,7 +13,7 @@ use table::{EntryNo, StatementNo};
 pub const PAIR_WORDS: usize = 2;
 
 // The next step, with the depth of the stack after it; or none is left.
-#[derive(Drop)]
+#[derive(Clone, Copy)]
 pub enum Taken {
     Step {
         statement: StatementNo,

@@ -7,7 +7,7 @@ use table::StatementNo;
 use table::statements::{label_length, label_start};
 
 // No label is empty, so a span of length 0 is none.
-#[derive(Drop)]
+#[derive(Clone, Copy)]
 pub struct Span {
     pub start: usize,
     pub length: usize,

@@ -16,7 +16,7 @@ use layout::{Layout, Line};
 use table::StatementNo;
 use walk::hyps::ParentHyp;
 
-#[derive(Drop)]
+#[derive(Clone, Copy)]
 pub struct Word {
     // The number that names its mark, 0 for none.
     pub mark: u32,

@@ -1,0 +1,8 @@
+-- `table::child_section` meets its contract: the header says where the section starts and where the next one does.
+-- Assumes nothing.
+use mathlib.Core.Path.{refl}
+use Rattle.table.proofs.Lemmas.{child_part}
+use Rattle.table.proofs.sections.child_section.Goals as goal
+
+pub returns : goal.returns
+returns c = child_part _ c.requires _ _ c.wide-from.ensures refl
