@@ -15,7 +15,7 @@ use Rattle.laws.specs.Tools.{part, member, count, total}
 use Rattle.laws.specs.Lists.{boole, or_no, All, all_keep, part_length}
 use Rattle.laws.specs.Counting.{count_keep, count_sort, length_sort}
 use Rattle.defs.specs.Order.{Filling, by_index, emit, fill_block}
-use Rattle.defs.specs.LabelLaws.{Fit}
+use Rattle.defs.proofs.LabelLaws.{Fit}
 use Rattle.blocks.specs.Line.{others, Once}
 use Rattle.sorts.specs.Sorted.{lower}
 use Rattle.blocks.specs.State.{State, state, price, choice_of, line_filled, block_filled, Ready, LineDone, BlockReady, BlockDone}

@@ -12,7 +12,8 @@ use Rattle.laws.specs.Tools.{part, total}
 use Rattle.laws.specs.Lists.{boole, All, all_map, part_length, map_all}
 use Rattle.laws.specs.Puts.{Placed}
 use Rattle.defs.specs.Order.{rest_reaches, choose, chosen, emit}
-use Rattle.defs.specs.ChoiceLaws.{choose_ascending, choose_fits, Ascending}
+use Rattle.defs.specs.ChoiceLaws.{Ascending}
+use Rattle.defs.proofs.ChoiceLaws.{choose_ascending, choose_fits}
 use Rattle.choice.specs.Rows.{cost_at}
 use Rattle.choice.specs.Choice.{Chosen}
 use Rattle.blocks.specs.Line.{members_at, others, Once, position_after}

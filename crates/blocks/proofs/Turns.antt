@@ -12,7 +12,7 @@ use Rattle.laws.specs.Lists.{boole, All, all_at}
 use Rattle.laws.specs.Sums.{bit, count_all}
 use Rattle.laws.specs.Counting.{count_keep}
 use Rattle.defs.specs.Order.{Filling, chosen, emit, fill_within}
-use Rattle.defs.specs.LabelLaws.{Fit, turn_suffices}
+use Rattle.defs.proofs.LabelLaws.{Fit, turn_suffices}
 use Rattle.blocks.specs.Line.{others}
 use Rattle.blocks.specs.State.{State, state, price, line_filled}
 

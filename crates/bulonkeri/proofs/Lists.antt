@@ -13,7 +13,7 @@ use Rattle.defs.specs.Check.{Test, ◌when◌, first_of, or_else, table_refusal}
 use Rattle.defs.specs.Layout.{Layout}
 use Rattle.defs.specs.Refusals.{bad12}
 use Rattle.defs.specs.Text.{labels_of, letters_for}
-use Rattle.defs.specs.Ranges.{labels_listed}
+use Rattle.defs.proofs.Ranges.{labels_listed}
 use Rattle.defs.specs.Sections.{statements_ok}
 use Rattle.defs.specs.Outcome.{Outcome, answer_two, compressed_tests, two_outputs, letters_number, letters_outcome}
 use Rattle.defs.specs.OutcomeLaws.{two_done}

@@ -11,7 +11,7 @@ use lib.ListN.{get_or}
 use Rattle.laws.specs.Lists.{leb_yes, leb_no}
 use Rattle.defs.specs.Layout.{max_width}
 use Rattle.defs.specs.Order.{best}
-use Rattle.defs.specs.ChoiceLaws.{best_fits}
+use Rattle.defs.proofs.ChoiceLaws.{best_fits}
 use Rattle.choice.specs.Rows.{Written, Low, none, above, greater, next_total, Totals}
 
 -- ---- the two halves of a row

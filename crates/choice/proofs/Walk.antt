@@ -12,7 +12,7 @@ use lib.Seq.{drop-length, drop-cons, get_or-set_same, get_or-set_other, drop-set
 use Rattle.laws.specs.Tools.{total}
 use Rattle.laws.specs.Lists.{eqb_yes, eqb_no, leb_no}
 use Rattle.defs.specs.Order.{best, rest_reaches, choose}
-use Rattle.defs.specs.ChoiceLaws.{choose_reaches}
+use Rattle.defs.proofs.ChoiceLaws.{choose_reaches}
 use Rattle.choice.specs.Rows.{cost_at, Totals}
 use Rattle.choice.specs.Choice.{Chosen}
 

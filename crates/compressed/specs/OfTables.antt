@@ -14,7 +14,8 @@ use Rattle.defs.specs.Letters.{letters_of}
 use Rattle.defs.specs.Layout.{Layout, bad8, widest}
 use Rattle.defs.specs.Text.{packed_of, labels_of, letters_for, compressed_text, text_of}
 use Rattle.defs.specs.Refusals.{bad12}
-use Rattle.defs.specs.LineLaws.{LinesFit, lines_fit}
+use Rattle.defs.specs.LineLaws.{LinesFit}
+use Rattle.defs.proofs.LineLaws.{lines_fit}
 use Rattle.lettering.specs.Said.{ListReady}
 use Rattle.compressed.specs.declared.places.Places.{Places}
 use Rattle.compressed.specs.Stepped.{SaysAt}

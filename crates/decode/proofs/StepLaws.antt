@@ -10,7 +10,7 @@ use Rattle.laws.specs.Tools.{over}
 use Rattle.defs.specs.Steps.{Step, step_size, step_words, flat}
 use Rattle.defs.specs.Laws.{flat_append, flat_length}
 use Rattle.defs.specs.Decode.{step_named, mark_last}
-use Rattle.defs.specs.LetterLaws.{named_ref}
+use Rattle.defs.proofs.LetterLaws.{named_ref}
 
 -- ---- the step that a number past both lists names
 

@@ -21,7 +21,6 @@ pub mod Sections
 pub mod DistanceLaws
 pub mod ChoiceLaws
 pub mod SortLaws
-pub mod LabelLaws
 pub mod LetterLaws
 pub mod NameLaws
 pub mod Ranges

@@ -14,7 +14,8 @@ use Rattle.defs.specs.Table.{kind, kind_in, statements, entries, statement_words
 use Rattle.defs.specs.Check.{table_refusal}
 use Rattle.defs.specs.Checked.{statement_ok, theorem_below, sections}
 use Rattle.defs.specs.Laws.{good}
-use Rattle.defs.specs.Ranges.{StepFits, packed_steps_fit}
+use Rattle.defs.specs.Ranges.{StepFits}
+use Rattle.defs.proofs.Ranges.{packed_steps_fit}
 use Rattle.defs.specs.Steps.{Step, is_normal, normal_stmts}
 use Rattle.defs.specs.Text.{packed_of}
 use Rattle.defs.specs.Order.{used, listed, floatings}

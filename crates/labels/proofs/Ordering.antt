@@ -18,7 +18,7 @@ use Rattle.defs.specs.Table.{word, statements, statement_words, label_length, ma
 use Rattle.defs.specs.Steps.{Step}
 use Rattle.defs.specs.Text.{packed_of}
 use Rattle.defs.specs.Order.{used, listed, cost_of, use_of, floatings, label_list}
-use Rattle.defs.specs.LabelLaws.{count_labels}
+use Rattle.defs.proofs.LabelLaws.{count_labels}
 use Rattle.defs.specs.Sections.{StatementsOk, statements_ok}
 use Rattle.listing.specs.Arrays.{OnlyIn, others}
 use Rattle.listing.specs.Labels.{LabelsReady, LabelsNumbered}

@@ -19,7 +19,7 @@ use Rattle.defs.specs.Steps.{Step, step_size, step_words, flat, normal_steps, No
 use Rattle.defs.specs.Text.{packed_of, normal_of}
 use Rattle.defs.specs.Outcome.{step_list_words}
 use Rattle.defs.specs.Laws.{flat_length, flat_append, normal_count_lem}
-use Rattle.lengths.specs.Bound.{packed_most}
+use Rattle.lengths.proofs.Bound.{packed_most}
 use Rattle.counts.specs.Sizes.{capped_size, size_is_13, size_is_count}
 use Rattle.walk.specs.Entries.{size, Entries, entries_of}
 use Rattle.walk.specs.Hyps.{parent_of, index_of}

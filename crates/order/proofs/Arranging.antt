@@ -21,8 +21,9 @@ use Rattle.defs.specs.Steps.{Step, normal_stmts, step_size, flat}
 use Rattle.defs.specs.Text.{packed_of, labels_of}
 use Rattle.defs.specs.Order.{used, listed, label_list}
 use Rattle.defs.specs.Refusals.{bad12, need32, need16}
-use Rattle.defs.specs.LabelLaws.{count_labels}
-use Rattle.defs.specs.Ranges.{StepFits, packed_steps_fit, labels_listed}
+use Rattle.defs.proofs.LabelLaws.{count_labels}
+use Rattle.defs.specs.Ranges.{StepFits}
+use Rattle.defs.proofs.Ranges.{packed_steps_fit, labels_listed}
 use Rattle.lettering.specs.Said.{number_of, SaysAll}
 use Rattle.theorem.proofs.Goals.{theorem_ok, list_short}
 use Rattle.theorem.specs.Goal.{InStatements}

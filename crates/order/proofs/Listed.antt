@@ -16,7 +16,7 @@ use Rattle.defs.specs.Steps.{step_size, flat}
 use Rattle.defs.specs.Text.{packed_of}
 use Rattle.defs.specs.Refusals.{need32}
 use Rattle.defs.specs.Outcome.{step_list_words}
-use Rattle.lengths.specs.Bound.{packed_most}
+use Rattle.lengths.proofs.Bound.{packed_most}
 use Rattle.walk.specs.Packed.{held}
 use Rattle.lists.proofs.ListLaws.{Stored}
 use Rattle.listing.specs.Listing.{AllReady, Listed}

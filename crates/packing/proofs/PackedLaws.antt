@@ -19,7 +19,8 @@ use Rattle.defs.specs.Counts.{parents}
 use Rattle.defs.specs.Steps.{Step, step_size, step_words, flat, Walk, mark_of, parent_word, index_word, gets_mark, refer, finish, visit, packed_with, packed_steps}
 use Rattle.defs.specs.Laws.{flat_append, flat_length}
 use Rattle.defs.specs.Sections.{EntriesOk, child_at}
-use Rattle.lengths.specs.Bound.{Grown, longer, refer_one, visit_grows, after_children, children_none, children_next, visit_met, visit_new, child_within, children_within, children_room, child_depth}
+use Rattle.lengths.specs.Bound.{Grown}
+use Rattle.lengths.proofs.Bound.{longer, refer_one, visit_grows, after_children, children_none, children_next, visit_met, visit_new, child_within, children_within, children_room, child_depth}
 use Rattle.walk.specs.Entries.{size, kids_length, kid_below, entries_fall}
 use Rattle.walk.specs.Marks.{counts_below, marked}
 use Rattle.walk.specs.Steps.{step, with_step}

@@ -18,7 +18,7 @@ use Rattle.defs.specs.Refusals.{need32}
 use Rattle.defs.specs.Steps.{step_size, flat}
 use Rattle.defs.specs.Text.{packed_of}
 use Rattle.defs.specs.Sections.{StatementsOk}
-use Rattle.lengths.specs.Bound.{packed_most}
+use Rattle.lengths.proofs.Bound.{packed_most}
 use Rattle.names.specs.Taken.{statements_in}
 use Rattle.names.specs.Named.{names_length, NamesLeft}
 use Rattle.names.specs.OfTables.{statements_in_lem, section_ok}

@@ -15,7 +15,7 @@ use Rattle.defs.specs.Names.{name}
 use Rattle.defs.specs.NameLaws.{name_least}
 use Rattle.defs.specs.Steps.{step_size}
 use Rattle.defs.specs.Text.{packed_of, end_word, steps_text}
-use Rattle.lengths.specs.Bound.{packed_most}
+use Rattle.lengths.proofs.Bound.{packed_most}
 use Rattle.layout.specs.declared.lines.Line.{Line as End}
 use Rattle.layout.specs.Laid.{Wrote, Lays, most_before}
 use Rattle.words.specs.declared.word.Word.{Word}

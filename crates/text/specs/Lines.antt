@@ -11,7 +11,8 @@ use Rattle.defs.specs.Layout.{Layout, bad8, widest}
 use Rattle.defs.specs.Text.{bad9, text_of}
 use Rattle.defs.specs.Refusals.{bad10, bad11, bad12, bad15}
 use Rattle.defs.specs.Outcome.{Outcome, answer_one, compressed_tests, length_after, out_after, one_output, text_number, text_outcome}
-use Rattle.defs.specs.LineLaws.{LinesFit, lines_fit}
+use Rattle.defs.specs.LineLaws.{LinesFit}
+use Rattle.defs.proofs.LineLaws.{lines_fit}
 
 -- a first answer that is 0 hands on to the next
 both_zero : (k next : ℕ) → or_else k next ≡ 0 → (k ≡ 0) × (next ≡ 0)

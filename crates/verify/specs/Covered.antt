@@ -18,9 +18,10 @@ use Rattle.defs.specs.OutcomeLaws.{else_good}
 use Rattle.defs.specs.Decode.{decode_outcome}
 use Rattle.defs.specs.Replay.{replay_outcome}
 use Rattle.defs.specs.Laws.{flat_length, normal_count_lem}
-use Rattle.lengths.specs.Bound.{packed_most}
+use Rattle.lengths.proofs.Bound.{packed_most}
 use Rattle.roundtrip.specs.Terms.{Reads, Decodes}
-use Rattle.roundtrip.specs.Main.{Covered, RoundTrip, demand3}
+use Rattle.roundtrip.specs.Main.{Covered, RoundTrip}
+use Rattle.roundtrip.proofs.Main.{demand3}
 use Rattle.verify.specs.Gave.{Gave, gave, gave_one, gave_two}
 use Rattle.verify.specs.Verified.{unless, agreeing, read_again, packed_gave, built_gave, packed_way, normal_way, lists_way, letters_gave, decoded_gave, spelled_way, decoded_way, letters_way, Lent, verified}
 use Rattle.verify.specs.declared.verdict.Stage.{Stage}

@@ -7,7 +7,7 @@ use Rattle.defs.specs.Graph.{Graph, graph_in}
 use Rattle.defs.specs.Counts.{parents}
 use Rattle.defs.specs.Steps.{step_size, flat, Walk, mark_of, visit, packed_steps}
 use Rattle.counts.specs.Parents.{Within, Filled}
-use Rattle.lengths.specs.Bound.{after_children}
+use Rattle.lengths.proofs.Bound.{after_children}
 use Rattle.walk.specs.Entries.{size, Entries}
 use Rattle.walk.specs.Marks.{marked}
 use Rattle.walk.specs.Steps.{step, with_step}

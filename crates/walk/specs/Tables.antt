@@ -11,7 +11,7 @@ use Rattle.defs.specs.Text.{packed_of, normal_of}
 use Rattle.defs.specs.Laws.{good}
 use Rattle.defs.specs.Checked.{sections, qed_below}
 use Rattle.defs.specs.Sections.{entries_ok}
-use Rattle.lengths.specs.Bound.{packed_walk_lem, packed_most, marks_most}
+use Rattle.lengths.proofs.Bound.{packed_walk_lem, packed_most, marks_most}
 use Rattle.counts.specs.Parents.{filled}
 use Rattle.walk.specs.Entries.{size, size_is, entries_of}
 use Rattle.walk.specs.Packed.{steps_from, Packable}

@@ -15,7 +15,8 @@ use Rattle.defs.specs.Steps.{Step, Walk, mark_of, parent_word, index_word, refer
 use Rattle.defs.specs.Text.{packed_of, normal_of}
 use Rattle.defs.specs.Laws.{Falls}
 use Rattle.defs.specs.Checked.{entry_ok, falls, qed_below}
-use Rattle.defs.specs.Ranges.{StepFits, packed_steps_fit, normal_steps_fit}
+use Rattle.defs.specs.Ranges.{StepFits}
+use Rattle.defs.proofs.Ranges.{packed_steps_fit, normal_steps_fit}
 
 -- ---- whatever holds of the words of the root, and of those of each child
 

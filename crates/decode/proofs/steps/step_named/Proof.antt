@@ -3,7 +3,7 @@
 use mathlib.Core.Path.{sym}
 use native.Mathlib.Omega.{arith}
 use borrow.Author.Rules.{rules}
-use Rattle.defs.specs.LetterLaws.{named_thm, named_label}
+use Rattle.defs.proofs.LetterLaws.{named_thm, named_label}
 use Rattle.decode.proofs.StepLaws.{named_mark}
 use Rattle.decode.proofs.steps.step_named.Statement.{statement}
 use Rattle.decode.proofs.steps.step_named.Tie as tie

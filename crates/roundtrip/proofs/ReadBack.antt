@@ -22,7 +22,8 @@ use Rattle.lengths.specs.TableWalks.{tree, good_q, under_q, packed_is_lem, norma
 use Rattle.roundtrip.specs.Stores.{Ent, stmt_S, kids_S, refs, look, intern, intern_in, Wf, wf_intern, read_back, idx}
 use Rattle.roundtrip.specs.Words.{ents, chil, rep, ents_length, graph_stmt, graph_kids}
 use Rattle.roundtrip.specs.Replays.{Room, run}
-use Rattle.roundtrip.specs.NewTables.{Fine, fine_intern, graph_is, new_good}
+use Rattle.roundtrip.specs.NewTables.{Fine}
+use Rattle.roundtrip.proofs.NewTables.{fine_intern, graph_is, new_good}
 use Rattle.roundtrip.specs.Sizes.{store_size, last_entry}
 
 -- a replay of these steps that ends with the store st is read as its words

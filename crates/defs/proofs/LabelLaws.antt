@@ -14,7 +14,7 @@ use Rattle.laws.specs.Tools.{range, any, keep, member, total, join, count, first
 use Rattle.defs.specs.Table.{kind, label_length}
 use Rattle.defs.specs.Steps.{Step}
 use Rattle.defs.specs.Order.{used, listed, cost_of, use_of, by_use, by_index, blocks_from, blocks, best, rest_reaches, choose, Filling, chosen, emit, fill_within, fill_block, fill_blocks, label_list, Counter, start_at, cutoffs, floatings}
-use Rattle.defs.specs.ChoiceLaws.{choose_reaches}
+use Rattle.defs.proofs.ChoiceLaws.{choose_reaches}
 use Rattle.laws.specs.Lists.{boole, T_of, of_T, clash, eqb_yes, eqb_no, leb_yes, map_snoc}
 use Rattle.laws.specs.Sums.{bit, count_append, count_all, member_count, count_member, count_no, count_self, head_in}
 use Rattle.laws.specs.Counting.{count_sort, length_sort, count_keep, keep_shorter, keep_drops, count_halves, count_firsts, none_at, none_of, range_once, range_below, count_permuted}

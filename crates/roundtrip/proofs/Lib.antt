@@ -1,0 +1,5 @@
+pub mod ReadBack
+pub mod LettersBack
+pub mod NewTables
+pub mod Main
+pub mod Instance
