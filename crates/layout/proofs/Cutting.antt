@@ -58,7 +58,7 @@ unfolding streamed
 streamed_here l s [] h = let e : s.at + 0 ≡ s.at = omega arith in rw (e, append-nil s.text)
 streamed_here l s (x ∷ xs) h =
     let e : s.at + 1 + length xs ≡ s.at + suc (length xs) = omega arith in
-    rw (letter_here l s x (omega arith)) (streamed_here l _ xs (omega arith) ∙ rw (e, append_snoc s.text x xs))
+    rw (letter_here l s x (omega arith)) (streamed_here l (record { at = s.at + 1; text = s.text ++ (x ∷ []) }) xs (omega arith) ∙ rw (e, append_snoc s.text x xs))
 
 -- on a full line the empty word makes no difference to the letter after it
 letter_full : (l : Layout) (s : Line) (x : ℕ) → Bounds l → s.at ≡ l.width → put_letter l (put_word l s []) x ≡ put_letter l s x

@@ -1,5 +1,6 @@
 // The letters of a packed list that stands in the working slice (document 01, "Number: .." and "Code of v: ..").
 #![tactic(auto)]
+
 ghost use Rattle.std.specs.Prelude.{◌+◌, ◌<◌};
 ghost use Rattle.laws.specs.Puts.{farthest};
 ghost use Rattle.lettering.specs.Said.{most_step, StepReady, NumberIs, StepWrote, ListReady, ListWrote};

@@ -1,5 +1,6 @@
 // The names of marks in packed texts (document 01, "Names are decimals from 1 in order, skipping any that is a label in the table").
 #![tactic(auto)]
+
 pub mod decimal; // decimal.rt: the decimal digits of a number
 pub mod number; // number.rt: the number that a label says
 pub mod taken; // taken.rt: which numbers are labels

@@ -1,5 +1,6 @@
 // The check of a table: refusals 1 to 7 of document 01, a file for each subject. Test 3 is crate label_check.
 #![tactic(auto)]
+
 mod entries;
 mod goal;
 mod header;

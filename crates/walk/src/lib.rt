@@ -1,5 +1,6 @@
 // What the packed walk reads and puts down for one entry, and the normal walk, over the sections of a checked table.
 #![tactic(auto)]
+
 pub mod children;
 pub mod hyps;
 pub mod marks;

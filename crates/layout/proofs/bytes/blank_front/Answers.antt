@@ -2,7 +2,7 @@
 -- The measure is how many blanks are left.
 use mathlib.Core.List.{List}
 use mathlib.Core.Path.{◌≡◌, refl, ap, ◌∙◌}
-use Prim.Native.Nat.{ℕ, ◌-◌}
+use Prim.Native.Nat.{ℕ}
 use native.Mathlib.Omega.{arith}
 use borrow.Author.Fill.{fill_more}
 use lib.ListN.{set, length-set}

@@ -8,5 +8,5 @@ use Rattle.layout.proofs.bytes.put_byte.Goals as goal
 pub returns-then-out-end : goal.returns-then-out-end
 returns-then-out-end c = not_put _ _ _ _ refl c.if-out-end.true
 
-pub returns-then-out-end : goal.returns
-returns-then-out-end c = is_put (omega arith) (put_one _ _ _ (omega arith))
+pub returns : goal.returns
+returns c = is_put (omega arith) (put_one _ _ _ (omega arith))

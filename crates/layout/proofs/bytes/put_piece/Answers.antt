@@ -9,7 +9,7 @@ use Rattle.layout.proofs.bytes.put_piece.Goals as goal
 pub returns-then-out-end : goal.returns-then-out-end
 returns-then-out-end c = not_put _ _ _ _ refl c.if-out-end.true
 
-pub returns-then-out-end : goal.returns
-returns-then-out-end c =
+pub returns : goal.returns
+returns c =
     let a = c.args in
     is_put (omega arith) (free_part a.out.now a.piece.now _ a.at _ _ refl refl c.copy_front.ensures)

@@ -11,7 +11,7 @@ use Rattle.layout.proofs.bytes.put_spaces.Goals as goal
 pub returns-then-out-end : goal.returns-then-out-end
 returns-then-out-end c = not_put _ _ _ _ (omega (arith, length-replicate c.args.n space)) c.if-out-end.true
 
-pub returns-then-out-end : goal.returns
-returns-then-out-end c =
+pub returns : goal.returns
+returns c =
     let a = c.args in
     is_put (omega arith) (free_part a.out.now _ _ a.at _ a.n refl (sym (length-replicate a.n space)) c.blank_front.ensures)

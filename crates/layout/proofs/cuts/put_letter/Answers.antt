@@ -7,5 +7,5 @@ use Rattle.layout.proofs.cuts.put_letter.Goals as goal
 pub returns-then-at-layout : goal.returns-then-at-layout
 returns-then-at-layout c = lays_here _ _ (omega (arith, c.if-at-layout.true)) (omega arith) c.put_byte-end.ensures
 
-pub returns-then-at-layout : goal.returns
-returns-then-at-layout c = lays_next _ _ (omega (arith, c.if-at-layout.false)) (omega arith) c.open_word-opened.ensures c.put_byte-end-2.ensures
+pub returns : goal.returns
+returns c = lays_next _ _ (omega (arith, c.if-at-layout.false)) (omega arith) c.open_word-opened.ensures c.put_byte-end-2.ensures

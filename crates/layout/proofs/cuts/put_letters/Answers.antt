@@ -1,6 +1,5 @@
 -- `put_letters` meets its contract. The letters before i are laid from the line where the loop began.
 -- The measure is how many letters are left.
-use Prim.Native.Nat.{◌-◌}
 use native.Mathlib.Omega.{arith}
 use Rattle.layout.proofs.Wrote.{lays_kept}
 use Rattle.layout.proofs.Cutting.{laid_none, laid_more, laid_all}

@@ -9,7 +9,7 @@ pub returns-then-k-left : goal.returns-then-k-left
 returns-then-k-left c =
     opens_here _ c.args.k (omega (arith, c.left.ensures)) (omega arith) c.put_byte-start.ensures
 
-pub returns-then-k-left : goal.returns
-returns-then-k-left c =
+pub returns : goal.returns
+returns c =
     opens_next _ c.args.k (bounds _ c.requires.layout_value) (omega (arith, c.left.ensures)) (omega arith)
     c.put_byte-next.ensures c.put_spaces-start.ensures

@@ -1,10 +1,10 @@
 -- `mixed` meets its contract. The answer of the whole list is that of the part still to come, with what was seen of essentials before it.
 -- The measure is what is left of the list.
 use mathlib.Core.Path.{refl, sym, ◌∙◌}
-use mathlib.Core.Logic.{inl, inr, ⊎_elim}
-use Prim.Native.Nat.{◌-◌}
+use mathlib.Core.Logic.{inl, inr}
 use native.Mathlib.Omega.{arith}
 use Rattle.theorem.proofs.Searches.{mixed_next, mixed_hit, mixed_end}
+use Rattle.theorem.proofs.hypotheses.mixed.Goals.{then-essential+else-k-eq-FLOATING, else-essential, then-k-eq-ESSENTIAL, else-k-eq-ESSENTIAL}
 use Rattle.theorem.proofs.hypotheses.mixed.Goals as goal
 
 pub loop-i-init : goal.loop-i-init
@@ -22,8 +22,14 @@ loop-i-preserved c =
     let p = c.loop-i in (
       omega arith,
       sym (mixed_next _ _ _ p.essential _ c.kind-k.result c.loop-i-test.true c.kind-k.ensures
-          (⊎_elim (λ w. inl (w.0.taken, λ one. omega arith)) (λ w. inr w.left) c.if-essential.branch)
-          (⊎_elim (λ w. inl (omega arith, w.1)) (λ w. inr (λ two. omega arith, w.1)) c.if-k-eq-ESSENTIAL.branch))
+          (elim c.if-essential.branch [
+            | then-essential+else-k-eq-FLOATING w ↦ inl (w.if-essential.true, λ one. omega arith)
+            | else-essential w ↦ inr w.if-essential.false
+          ])
+          (elim c.if-k-eq-ESSENTIAL.branch [
+            | then-k-eq-ESSENTIAL w ↦ inl (omega arith, w.essential-is)
+            | else-k-eq-ESSENTIAL w ↦ inr (λ two. omega arith, w.essential-is)
+          ]))
           ∙ p.invariant.1,
     )
 

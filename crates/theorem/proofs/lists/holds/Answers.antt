@@ -1,7 +1,6 @@
 -- `holds` meets its contract. The number stands in the list where it stands in the part still to come.
 -- The measure is what is left of the list.
 use mathlib.Core.Path.{refl, sym, ◌∙◌}
-use Prim.Native.Nat.{◌-◌}
 use native.Mathlib.Omega.{arith}
 use Rattle.theorem.proofs.Searches.{member_hit, member_miss, member_end}
 use Rattle.theorem.proofs.lists.holds.Goals as goal

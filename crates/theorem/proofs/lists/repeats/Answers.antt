@@ -2,7 +2,6 @@
 -- The measure is what is left of the list.
 use mathlib.Core.Path.{◌≡◌, refl, sym, ◌∙◌}
 use mathlib.Core.Bool.{true, false}
-use Prim.Native.Nat.{◌-◌}
 use native.Mathlib.Omega.{arith}
 use Rattle.theorem.proofs.Searches.{repeats_next, repeats_end}
 use Rattle.theorem.proofs.lists.repeats.Goals as goal

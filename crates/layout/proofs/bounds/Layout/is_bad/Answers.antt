@@ -16,5 +16,5 @@ returns-then-self c = refused _ (λ b. omega arith)
 pub returns-then-self-2 : goal.returns-then-self-2
 returns-then-self-2 c = refused _ (λ b. omega arith)
 
-pub returns-then-self-gt-MAX_WIDTH : goal.returns
-returns-then-self-gt-MAX_WIDTH c = accepted _ (record { wide = omega arith; some = omega arith; narrow = omega arith; inside = omega arith })
+pub returns : goal.returns
+returns c = accepted _ (record { wide = omega arith; some = omega arith; narrow = omega arith; inside = omega arith })
