@@ -51,7 +51,7 @@ repeats_once [] e x = omega arith
 repeats_once (y ∷ ys) e x =
     let p = or_no (member y ys) (repeats ys) e in
     bit_cases x y
-    (λ q one. rw q (omega (arith, count_no y ys p.0, rw q at one)))
+    (λ q one. let none : count x ys ≡ 0 = rw q (count_no y ys p.0) in omega (arith, none, one))
     (λ q none. omega (arith, repeats_once ys p.1 x))
 
 module _ (s : ℕ) (thm list : List ℕ) where

@@ -1,5 +1,6 @@
 // Decoding (document 01, "Reading back"): a label list and letters, read into a step list.
 #![tactic(auto)]
+
 mod answer; // answer.rt: refusals 17 and 15, and the steps
 mod labels; // labels.rt: refusal 16
 mod reading; // reading.rt: the letters, one by one
