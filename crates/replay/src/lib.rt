@@ -1,5 +1,6 @@
 // Replay of document 01, `Reading back`: a step list that is not explicit, read into new entries.
 #![tactic(auto)]
+
 pub mod answer;
 pub mod run;
 pub mod stack;
