@@ -1,5 +1,6 @@
 // The answer of an operation: a number and the lengths written, and working slices that are left zero.
 #![tactic(auto)]
+
 pub mod wiping; // wiping.rt: working slices left zero
 pub mod written; // written.rt: the records of an answer; refused, done
 

@@ -1,5 +1,6 @@
 // A table with the statements and hypotheses of another, and new entries and children: its header and its length.
 #![tactic(auto)]
+
 ghost use Rattle.std.specs.Prelude.{◌≡◌, ◌≤◌, ◌-◌, ◌+◌, ◌/◌, length};
 ghost use Rattle.defs.specs.Table.{entry_size, entries_from};
 ghost use Rattle.new_table.specs.NewTables.{most_entry_words, Renewable, new_header};

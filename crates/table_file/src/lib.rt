@@ -1,5 +1,6 @@
 // Words as a table file has them: four bytes each, the lowest first.
 #![tactic(auto)]
+
 ghost use Rattle.std.specs.Prelude.{◌≡◌, ℕ, ◌+◌, ◌*◌, ◌/◌, ◌<◌, ◌≤◌, min, length, get_or};
 ghost use Rattle.laws.specs.Puts.{Grows};
 ghost use Rattle.table_file.specs.Words.{word_at, word_bytes, file_bytes, most_words};
