@@ -10,7 +10,7 @@ use walk::children::{child_in, children_of, lists_children, statement_in};
 use walk::own::{finish, list_single};
 
 // The children of an entry in order, each with what lies below it.
-#[cycle(explicit_children_explicit_grandchildren)]
+#[cycle(explicit)]
 pub fn explicit_children(words: &&[u32], work: &mut [u32], e: EntryNo, start: usize) -> usize
     requires header_ok { HeaderOk words.now.now }
     requires ready { Ready (entry_words words.now.now) (child_words words.now.now) true e.0 (held work.old start) }
@@ -36,7 +36,7 @@ pub fn explicit_children(words: &&[u32], work: &mut [u32], e: EntryNo, start: us
 }
 
 // The children of a child, listed in the same way.
-#[cycle(explicit_children_explicit_grandchildren)]
+#[cycle(explicit)]
 fn explicit_grandchildren(words: &&[u32], work: &mut [u32], e: EntryNo, start: usize) -> usize
     requires header_ok { HeaderOk words.now.now }
     requires ready { Ready (entry_words words.now.now) (child_words words.now.now) true e.0 (held work.old start) }

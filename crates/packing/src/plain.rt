@@ -12,7 +12,7 @@ use walk::own::{finish, list_single};
 // their parents. A walk is as deep as a table has entries, so little is kept from one call to the next: the table's words are handed on by
 // their place. And it is two functions in turn, which the compiler makes one, so that a call is for two entries: a return from far
 // down costs as much as several steps.
-#[cycle(plain_children_plain_grandchildren)]
+#[cycle(plain)]
 pub fn plain_children(words: &&[u32], work: &mut [u32], e: EntryNo, start: usize) -> usize
     requires header_ok { HeaderOk words.now.now }
     requires ready { Ready (entry_words words.now.now) (child_words words.now.now) false e.0 (held work.old start) }
@@ -36,7 +36,7 @@ pub fn plain_children(words: &&[u32], work: &mut [u32], e: EntryNo, start: usize
 }
 
 // The children of a child, listed in the same way.
-#[cycle(plain_children_plain_grandchildren)]
+#[cycle(plain)]
 fn plain_grandchildren(words: &&[u32], work: &mut [u32], e: EntryNo, start: usize) -> usize
     requires header_ok { HeaderOk words.now.now }
     requires ready { Ready (entry_words words.now.now) (child_words words.now.now) false e.0 (held work.old start) }

@@ -13,8 +13,8 @@ use Rattle.walk.proofs.children.children_of.Goals as goal
 start_is : (c : After-child_start-first) → c.child_start-first.result ≡ child_start_in (entry_words c.args.words.now) c.args.e.0
 start_is c = c.child_start-first.ensures ∙ ap (λ (l : List ℕ). child_start_in l c.args.e.0) c.entry_section-entries.ensures
 
-count-is : (c : After-child_count) → c.child_count.result ≡ child_count_in (entry_words c.args.words.now) c.args.e.0
-count-is c = c.child_count.ensures ∙ ap (λ (l : List ℕ). child_count_in l c.args.e.0) c.entry_section-entries.ensures
+count_is : (c : After-child_count) → c.child_count.result ≡ child_count_in (entry_words c.args.words.now) c.args.e.0
+count_is c = c.child_count.ensures ∙ ap (λ (l : List ℕ). child_count_in l c.args.e.0) c.entry_section-entries.ensures
 
 pub child_start-first-requires : goal.child_start-first-requires
 child_start-first-requires c = rw c.entry_section-entries.ensures (omega (arith, c.requires.inside))
@@ -25,7 +25,7 @@ child_count-requires c = rw c.entry_section-entries.ensures (omega (arith, c.req
 pub overflow_add-result : goal.overflow_add-result
 overflow_add-result c =
     let pre = c.requires in
-    omega (arith, start_is (goal.at.overflow_add-result (goal.at.overflow_add-result c).After-child_count).After-child_start-first, count-is (goal.at.overflow_add-result c).After-child_count, pre.entries.ok.inside c.args.e.0 pre.inside, pre.entries.ok.few_children)
+    omega (arith, start_is (goal.at.overflow_add-result (goal.at.overflow_add-result c).After-child_count).After-child_start-first, count_is (goal.at.overflow_add-result c).After-child_count, pre.entries.ok.inside c.args.e.0 pre.inside, pre.entries.ok.few_children)
 
 pub parent_word-requires : goal.parent_word-requires
 parent_word-requires c =
@@ -35,6 +35,6 @@ parent_word-requires c =
 pub returns : goal.returns
 returns c = record {
   first_is = start_is (goal.at.returns c).After-child_start-first;
-  until_is = ap (λ (k : ℕ). c.child_start-first.result + k) (count-is (goal.at.returns c).After-child_count);
+  until_is = ap (λ (k : ℕ). c.child_start-first.result + k) (count_is (goal.at.returns c).After-child_count);
   parent_is = c.parent_word.ensures ∙ ap (λ (l : List ℕ). parent_word c.args.explicit (entry_stmt_in l c.args.e.0)) c.entry_section-entries.ensures;
 }

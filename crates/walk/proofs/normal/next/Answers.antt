@@ -14,8 +14,8 @@ use Rattle.walk.proofs.normal.next.Goals as goal
 -- the next child of the top entry, where there is one
 record More (es cs s : List ℕ) (top : ℕ) : Type 0 where
   more : next_on s top < child_count_in es (entry_on s top)
-  child-in : child_start_in es (entry_on s top) + next_on s top < length cs
-  pair-in : pair_size * top + 3 < length s
+  child_in : child_start_in es (entry_on s top) + next_on s top < length cs
+  pair_in : pair_size * top + 3 < length s
   few : next_on s top < max_child_refs
 
 more_of : (c : Else-child_count-wide) → More c.args.entries.now c.args.children.now c.loop-e.stack c.loop-e.top
@@ -23,7 +23,7 @@ more_of c =
     let p = c.loop-e in
     let m : next_on p.stack p.top < child_count_in c.args.entries.now (entry_on p.stack p.top) = omega (arith, c.if-child_count-wide.false, c.wide.ensures, c.child_count.ensures) in
     let r = push_room c.args.entries.now c.args.children.now c.requires.entries p.stack p.top p.invariant.1.0 m _ refl in
-    record { more = m; child-in = r.0; pair-in = r.1.0; few = r.1.1 }
+    record { more = m; child_in = r.0; pair_in = r.1.0; few = r.1.1 }
 
 -- it is what the turn pushes
 child_is : (c : After-child-c) → c.child-c.result.0 ≡ word c.args.children.now (child_start_in c.args.entries.now (entry_on c.loop-e.stack c.loop-e.top) + next_on c.loop-e.stack c.loop-e.top)
