@@ -2,6 +2,7 @@
 // and those of the normal walk, step by step. Each counts always and stores only where the output is long enough: lent an empty
 // slice, it measures.
 #![tactic(auto)]
+
 pub mod named; // named.rt: the packed list and the names of its marks
 pub mod normal; // normal.rt: styles 1 and 3
 pub mod packed; // packed.rt: styles 2 and 4

@@ -1,0 +1,75 @@
+-- `packed_text` meets its contract: at turn i the words of the first i steps are laid. Every step is one of the table's,
+-- so what its word asks for is there.
+use mathlib.Core.Path.{◌∙◌}
+use Prim.Native.Nat.{◌-◌}
+use native.Mathlib.Omega.{arith}
+use Rattle.table.specs.Headers.{header_ok}
+use Rattle.steptexts.proofs.Lent.{Lent}
+use Rattle.steptexts.proofs.Laying.{laid_kept}
+use Rattle.steptexts.proofs.PackedLaws.{word_ready, word_in, near, turn, printed, start}
+use Rattle.steptexts.proofs.packed.packed_text.Goals.{At-loop-i}
+use Rattle.steptexts.proofs.packed.packed_text.Goals as goal
+
+abbrev Head : Type 0
+Head = At-loop-i
+
+-- the sections are the table's
+lent : (p : Head) → Lent p.args.words.now p.statement_section-statements.result.now p.hyp_section-hyps.result.now p.read_header-header.result.theorem.0
+lent p =
+    record {
+      statements_are = p.statement_section-statements.ensures;
+      hyps_are = p.hyp_section-hyps.ensures;
+      theorem_is = p.read_header-header.ensures.theorem_is;
+    }
+
+pub read_header-header-requires : goal.read_header-header-requires
+read_header-header-requires c = (header_ok _ _ c.requires.packed_ready.ok).ten
+
+pub statement_section-statements-requires : goal.statement_section-statements-requires
+statement_section-statements-requires c = header_ok _ _ c.requires.packed_ready.ok
+
+pub hyp_section-hyps-requires : goal.hyp_section-hyps-requires
+hyp_section-hyps-requires c = header_ok _ _ c.requires.packed_ready.ok
+
+pub begin-line-requires : goal.begin-line-requires
+begin-line-requires c = c.requires.layout_value
+
+pub loop-i-init : goal.loop-i-init
+loop-i-init c = (omega arith, start c.requires.packed_ready _ _)
+
+pub overflow_mul-at : goal.overflow_mul-at
+overflow_mul-at c = omega (arith, c.requires.packed_ready.inside, c.loop-i-test.true)
+
+pub overflow_add-at : goal.overflow_add-at
+overflow_add-at c = omega (arith, c.requires.packed_ready.inside, c.loop-i-test.true)
+
+pub packed_word-word-requires : goal.packed_word-word-requires
+packed_word-word-requires c = word_ready c.requires.packed_ready (lent (goal.at.packed_word-word-requires c).At-loop-i) _ c.loop-i-test.true
+
+pub put_step_word-line-requires : goal.put_step_word-line-requires
+put_step_word-line-requires c =
+    let p : Head = (goal.at.put_step_word-line-requires c).In-loop-i in
+    let r = c.requires.packed_ready in record { layout_value = c.requires.layout_value; word_inside = word_in r (lent p) _ c.loop-i-test.true c.packed_word-word.ensures; most_laid_bound = near r (lent p) _ p.loop.invariant.1 p.loop.invariant.0 p.before.before.before.begin.ensures.1 }
+
+pub overflow_add-i : goal.overflow_add-i
+overflow_add-i c = omega (arith, c.loop-i-test.true, c.ranges)
+
+pub loop-i-smaller : goal.loop-i-smaller
+loop-i-smaller c = omega (arith, c.loop-i-test.true)
+
+pub loop-i-preserved : goal.loop-i-preserved
+loop-i-preserved c =
+    let p : Head = (goal.at.loop-i-preserved c).In-loop-i in
+    (omega (arith, c.loop-i-test.true), turn c.requires.packed_ready (lent p) _ p.loop.invariant.1 c.packed_word-word.ensures c.put_step_word-line.ensures)
+
+pub close-last-requires : goal.close-last-requires
+close-last-requires c =
+    let p : Head = (goal.at.close-last-requires c).At-loop-i in record { layout_value = c.requires.layout_value; near = omega (arith, near c.requires.packed_ready (lent p) _ p.loop.invariant.1 p.loop.invariant.0 p.before.before.before.begin.ensures.1) }
+
+pub shape_of-out : goal.shape_of-out
+shape_of-out c = c.close-last.auto.out ∙ laid_kept c.loop-i.invariant.1 ∙ c.begin-line.auto.out
+
+pub returns : goal.returns
+returns c =
+    let p : Head = (goal.at.returns c).At-loop-i in
+    printed c.requires.packed_ready (lent p) _ p.loop.invariant.1 (omega (arith, c.loop-i-test.false, p.loop.invariant.0)) (omega arith) p.before.before.before.begin.ensures.0 c.close-last.ensures
