@@ -12,43 +12,42 @@ use Rattle.steptexts.proofs.normal.normal_text.Goals.{After-child_section-childr
 use Rattle.steptexts.proofs.normal.normal_text.Goals as goal
 
 -- ---- where the sections are cut, and the head of the loop
-abbrev Cut : Type 0
-Cut = After-child_section-children
-
-entered : (s : Cut) → Entered s.args.words.now s.entry_section-entries.result.now s.child_section-children.result.now s.read_header-header.result.qed.0
-entered s = record { entries_are = s.entry_section-entries.ensures; children_are = s.child_section-children.ensures; qed_is = s.read_header-header.ensures.qed_is }
-
-abbrev Head : Type 0
-Head = At-loop-statement
-
-abbrev cut : Head → Cut
-cut p = p.before.before.before.before.before.before.before.before.before
+entered : (s : After-child_section-children) →
+    Entered s.args.words.now s.entry_section-entries.result.now s.child_section-children.result.now s.read_header-header.result.qed.0
+entered s =
+    record {
+      entries_are = s.entry_section-entries.ensures;
+      children_are = s.child_section-children.ensures;
+      qed_is = s.read_header-header.ensures.qed_is;
+    }
 
 -- what stands when the loop begins
-here : (p : Head) → Here (cut p).before.before.before.before.before.before.before.before.before.args.words.now (cut p).before.before.before.before.before.before.before.before.before.args.labels.now (length (cut p).before.before.before.before.before.before.before.before.before.args.stack.now) (cut p).before.before.before.statement-section.result.now (cut p).before.before.hyp-section.result.now (cut p).before.before.before.before.read-header.result.theorem.0 (cut p).before.entry-section.result.now (cut p).child-section.result.now (cut p).before.before.before.before.read-header.result.qed.0 p.begin.last.1.1.0
+here : (p : At-loop-statement) → Here p.args.words.now p.args.labels.now (length p.args.stack.now) p.statement_section-statements.result.now
+    p.hyp_section-hyps.result.now p.read_header-header.result.theorem.0 p.entry_section-entries.result.now p.child_section-children.result.now
+    p.read_header-header.result.qed.0 p.begin.new.stack
 here p =
     record {
-      ready = (cut p).before.before.before.before.before.before.before.before.before.pre.1;
+      ready = p.requires.normal_ready;
       lent = record {
-        statements_are = (cut p).before.before.before.statement-section.ensures;
-        hyps_are = (cut p).before.before.hyp-section.ensures;
-        theorem_is = (cut p).before.before.before.before.read-header.ensures.theorem_is;
+        statements_are = p.statement_section-statements.ensures;
+        hyps_are = p.hyp_section-hyps.ensures;
+        theorem_is = p.read_header-header.ensures.theorem_is;
       };
-      entered = entered (cut p);
+      entered = record {
+        entries_are = p.entry_section-entries.ensures;
+        children_are = p.child_section-children.ensures;
+        qed_is = p.read_header-header.ensures.qed_is;
+      };
       begins = p.begin.ensures;
     }
 
 -- ---- a turn
-abbrev Turn : Type 0
-Turn = In-Step
+stepped : (c : In-Step) → Stepped c.entry_section-entries.result.now c.child_section-children.result.now c.args.explicit
+    (left c.entry_section-entries.result.now c.child_section-children.result.now c.args.explicit c.loop-statement.stack c.loop-statement.depth)
+    c.next-taken.new.stack c.in-Step.statement.0 c.in-Step.hyp c.in-Step.below
+stepped c = came_step _ _ _ _ _ _ _ _ _ c.next-taken.ensures c.in-Step.is
 
-abbrev head : Turn → Head
-head c = c.before.before.before.before.before.before.before
-
-stepped : (c : Turn) → Stepped (cut (head c)).before.entry-section.result.now (cut (head c)).child-section.result.now (cut (head c)).before.before.before.before.before.before.before.before.before.args.explicit (left (cut (head c)).before.entry-section.result.now (cut (head c)).child-section.result.now (cut (head c)).before.before.before.before.before.before.before.before.before.args.explicit (head c).loop.stack (head c).loop.depth) c.next-taken.new.stack c.taken-1.given.0.0.0 c.taken-1.given.0.1.0 c.taken-1.given.0.1.1.0
-stepped c = came_step _ _ _ _ _ _ _ _ _ c.next-taken.ensures c.taken-1.given.1
-
--- ---- the needs
+-- ---- the goals
 pub read_header-header-requires : goal.read_header-header-requires
 read_header-header-requires c = (header_ok _ _ c.requires.normal_ready.ok).ten
 
@@ -65,7 +64,9 @@ pub child_section-children-requires : goal.child_section-children-requires
 child_section-children-requires c = header_ok _ _ c.requires.normal_ready.ok
 
 pub begin-requires : goal.begin-requires
-begin-requires c = may_walk c.requires.normal_ready (entered (goal.at.begin-requires c).After-child_section-children)
+begin-requires c =
+    let walks = may_walk c.requires.normal_ready (entered (goal.at.begin-requires c).After-child_section-children) in
+    record { entries = walks.0; root_bound = walks.1 }
 
 pub begin-line-requires : goal.begin-line-requires
 begin-line-requires c = c.requires.layout_value
@@ -74,16 +75,10 @@ pub loop-statement-init : goal.loop-statement-init
 loop-statement-init c = (start _ _ _ _ c.begin.ensures.stacked, refl)
 
 pub next-taken-requires : goal.next-taken-requires
-next-taken-requires c = record { entries = (may_walk c.requires.normal_ready (entered (cut c.before))).0; stacked = c.loop-statement.invariant.0.stacked }
-
-pub enum_known-taken : goal.enum_known-taken
-enum_known-taken c = c.in-Step.keys1
-
-pub enum_told-1 : goal.enum_told-1
-enum_told-1 c = c.in_default.keys2
+next-taken-requires c = record { entries = (may_walk c.requires.normal_ready (entered (goal.at.next-taken-requires c).After-child_section-children)).0; stacked = c.loop-statement.invariant.0.stacked }
 
 pub close-last-requires : goal.close-last-requires
-close-last-requires c = record { layout_value = c.requires.layout_value; near = omega (arith, near (here c.before.before.before.before.before.before.before) c.loop-statement.invariant.0 c.begin-line.ensures.1) }
+close-last-requires c = record { layout_value = c.requires.layout_value; near = omega (arith, near (here (goal.at.close-last-requires c).At-loop-statement) c.loop-statement.invariant.0 c.begin-line.ensures.1) }
 
 pub shape_of-stack-in_default : goal.shape_of-stack-in_default
 shape_of-stack-in_default c = c.next-taken.auto.stack ∙ c.loop-statement.invariant.1 ∙ c.begin.auto.stack
@@ -93,24 +88,31 @@ shape_of-out-in_default c = c.close-last.auto.out ∙ laid_kept c.loop-statement
 
 pub returns-in_default : goal.returns-in_default
 returns-in_default c =
-    printed (here c.before.before.before.before.before.before.before.before.before.before) c.loop-statement.invariant.0 (came_end _ _ _ _ _ _ c.next-taken.ensures c.enum_told-1.given.1) (omega arith)
+    printed (here (goal.at.returns-in_default c).At-loop-statement) c.loop-statement.invariant.0 (came_end _ _ _ _ _ _ c.next-taken.ensures c.in_default.is) (omega arith)
     c.begin-line.ensures.0 c.close-last.ensures
 
 pub plain_word-word-requires : goal.plain_word-word-requires
-plain_word-word-requires c = word_ready (here (head c)) (head c).loop.invariant.0 (stepped c)
+plain_word-word-requires c =
+    let ready =
+    word_ready (here (goal.at.plain_word-word-requires c).At-loop-statement) c.loop-statement.invariant.0
+    (stepped (goal.at.plain_word-word-requires c).In-Step) in
+    record { statement_in = ready.0; hyp_ready = ready.1 }
 
 pub put_step_word-line-requires : goal.put_step_word-line-requires
 put_step_word-line-requires c =
-    let t : Turn = (goal.at.put_step_word-line-requires c).After-plain_word-arg-1 in
-    let p : Head = head t in record { layout_value = c.requires.layout_value; word_inside = word_in (here p) p.loop.inv.0 (stepped t) c.plain_word-word.ensures; most_laid_bound = near (here p) p.loop.inv.0 p.before.before.before.begin2.ensures.1 }
+    let h = here (goal.at.put_step_word-line-requires c).At-loop-statement in
+    record {
+      layout_value = c.requires.layout_value;
+      word_inside = word_in h c.loop-statement.invariant.0 (stepped (goal.at.put_step_word-line-requires c).In-Step) c.plain_word-word.ensures;
+      most_laid_bound = near h c.loop-statement.invariant.0 c.begin-line.ensures.1;
+    }
 
 pub loop-statement-smaller : goal.loop-statement-smaller
-loop-statement-smaller c = fewer (stepped c.before.before.before.before.before)
+loop-statement-smaller c = fewer (stepped (goal.at.loop-statement-smaller c).In-Step)
 
 pub loop-statement-preserved : goal.loop-statement-preserved
-loop-statement-preserved c =
-    let t : Turn = (goal.at.loop-statement-preserved c).After-plain_word-arg-1 in
-    let p : Head = head t in (
-      turn (here p) p.loop.inv.0 (stepped t) c.plain_word-word.ensures c.put_step_word-line.ensures,
-      t.before.before.before.before.before.next.auto.1.1.0 ∙ p.loop.inv.1,
-    )
+loop-statement-preserved c = (
+  turn (here (goal.at.loop-statement-preserved c).At-loop-statement) c.loop-statement.invariant.0 (stepped (goal.at.loop-statement-preserved c).In-Step)
+      c.plain_word-word.ensures c.put_step_word-line.ensures,
+  c.next-taken.auto.stack ∙ c.loop-statement.invariant.1,
+)

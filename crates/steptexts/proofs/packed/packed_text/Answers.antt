@@ -10,11 +10,8 @@ use Rattle.steptexts.proofs.PackedLaws.{word_ready, word_in, near, turn, printed
 use Rattle.steptexts.proofs.packed.packed_text.Goals.{At-loop-i}
 use Rattle.steptexts.proofs.packed.packed_text.Goals as goal
 
-abbrev Head : Type 0
-Head = At-loop-i
-
 -- the sections are the table's
-lent : (p : Head) → Lent p.args.words.now p.statement_section-statements.result.now p.hyp_section-hyps.result.now p.read_header-header.result.theorem.0
+lent : (p : At-loop-i) → Lent p.args.words.now p.statement_section-statements.result.now p.hyp_section-hyps.result.now p.read_header-header.result.theorem.0
 lent p =
     record {
       statements_are = p.statement_section-statements.ensures;
@@ -48,8 +45,8 @@ packed_word-word-requires c = word_ready c.requires.packed_ready (lent (goal.at.
 
 pub put_step_word-line-requires : goal.put_step_word-line-requires
 put_step_word-line-requires c =
-    let p : Head = (goal.at.put_step_word-line-requires c).In-loop-i in
-    let r = c.requires.packed_ready in record { layout_value = c.requires.layout_value; word_inside = word_in r (lent p) _ c.loop-i-test.true c.packed_word-word.ensures; most_laid_bound = near r (lent p) _ p.loop.invariant.1 p.loop.invariant.0 p.before.before.before.begin.ensures.1 }
+    let p : At-loop-i = (goal.at.put_step_word-line-requires c).At-loop-i in
+    let r = c.requires.packed_ready in record { layout_value = c.requires.layout_value; word_inside = word_in r (lent p) _ c.loop-i-test.true c.packed_word-word.ensures; most_laid_bound = near r (lent p) _ c.loop-i.invariant.1 c.loop-i.invariant.0 c.begin-line.ensures.1 }
 
 pub overflow_add-i : goal.overflow_add-i
 overflow_add-i c = omega (arith, c.loop-i-test.true, c.ranges)
@@ -59,17 +56,18 @@ loop-i-smaller c = omega (arith, c.loop-i-test.true)
 
 pub loop-i-preserved : goal.loop-i-preserved
 loop-i-preserved c =
-    let p : Head = (goal.at.loop-i-preserved c).In-loop-i in
-    (omega (arith, c.loop-i-test.true), turn c.requires.packed_ready (lent p) _ p.loop.invariant.1 c.packed_word-word.ensures c.put_step_word-line.ensures)
+    let p : At-loop-i = (goal.at.loop-i-preserved c).At-loop-i in
+    (omega (arith, c.loop-i-test.true), turn c.requires.packed_ready (lent p) _ c.loop-i.invariant.1 c.packed_word-word.ensures c.put_step_word-line.ensures)
 
 pub close-last-requires : goal.close-last-requires
 close-last-requires c =
-    let p : Head = (goal.at.close-last-requires c).At-loop-i in record { layout_value = c.requires.layout_value; near = omega (arith, near c.requires.packed_ready (lent p) _ p.loop.invariant.1 p.loop.invariant.0 p.before.before.before.begin.ensures.1) }
+    let p : At-loop-i = (goal.at.close-last-requires c).At-loop-i in
+    record { layout_value = c.requires.layout_value; near = omega (arith, near c.requires.packed_ready (lent p) _ c.loop-i.invariant.1 c.loop-i.invariant.0 c.begin-line.ensures.1) }
 
 pub shape_of-out : goal.shape_of-out
 shape_of-out c = c.close-last.auto.out ∙ laid_kept c.loop-i.invariant.1 ∙ c.begin-line.auto.out
 
 pub returns : goal.returns
 returns c =
-    let p : Head = (goal.at.returns c).At-loop-i in
-    printed c.requires.packed_ready (lent p) _ p.loop.invariant.1 (omega (arith, c.loop-i-test.false, p.loop.invariant.0)) (omega arith) p.before.before.before.begin.ensures.0 c.close-last.ensures
+    let p : At-loop-i = (goal.at.returns c).At-loop-i in
+    printed c.requires.packed_ready (lent p) _ c.loop-i.invariant.1 (omega (arith, c.loop-i-test.false, c.loop-i.invariant.0)) (omega arith) c.begin-line.ensures.0 c.close-last.ensures
