@@ -1,5 +1,6 @@
 // Demand 3 at work: the normal list, the packed list, and the letters with their label list, each read back and compared.
 #![tactic(auto)]
+
 pub mod answer; // answer.rt: the public operation
 pub mod compare; // compare.rt: two slices, and a step list read and compared with what was read before
 pub mod spelled; // spelled.rt: the letters and the steps that they decode to
