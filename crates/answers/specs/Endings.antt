@@ -1,6 +1,6 @@
 -- The endings of an operation. A refusal changes no output, success puts the results over the fronts of the outputs; an early refusal leaves the
 -- working slices, any other ending leaves them zero. What is written is said first with no working slice at all, then these are wiped.
-use Rattle.std.specs.Prelude.{◌≡◌, refl, ◌≢◌, true, false, List, [], ◌∷◌, map, ℕ, length, replicate}
+use Rattle.std.specs.Prelude.{◌≡◌, ◌≢◌, true, false, List, [], ◌∷◌, map, ℕ, length}
 use Rattle.std.proofs.Common.{sym, ap, ◌∙◌}
 use Rattle.laws.specs.Tools.{over, zeroed}
 use Rattle.laws.specs.Lists.{eqb_no}

@@ -1,6 +1,6 @@
 -- For each public operation: two calls with the same inputs whose answers its contract allows have the same number, the same lengths and the
 -- same slices. Every contract has the form of the premises here.
-use Rattle.std.specs.Prelude.{◌≡◌, refl, Bool, List, [], ◌∷◌, ℕ}
+use Rattle.std.specs.Prelude.{◌≡◌, Bool, List, [], ◌∷◌, ℕ}
 use Rattle.std.proofs.Common.{sym, ◌∙◌}
 use Rattle.defs.specs.Check.{table_refusal}
 use Rattle.defs.specs.Layout.{Layout}

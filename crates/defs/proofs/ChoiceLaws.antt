@@ -4,7 +4,7 @@ use Rattle.std.specs.Prelude.{◌≡◌, refl, ◌≢◌, ◌⊎◌, ℕ, zero, 
 use Rattle.std.proofs.Common.{sym, ap, ◌∙◌, inl, inr, arith, leb→le, eqb→eq}
 use Rattle.std.proofs.Math.Decide.{ℕ_discrete}
 use Rattle.std.proofs.Math.Dec.{nleb→lt}
-use Rattle.laws.specs.Tools.{pick, total, sum_below, member}
+use Rattle.laws.specs.Tools.{pick, total, sum_below}
 use Rattle.laws.specs.Lists.{boole, T_of, clash, eqb_yes, eqb_no, All, all_map, all_snoc, found_all, found_end, found_other, member_is}
 use Rattle.laws.specs.Sums.{tot_append, sum_eq}
 use Rattle.defs.specs.Order.{best, rest_reaches, choose}

@@ -1,5 +1,5 @@
 -- Decoding undoes coding: the letters of a number, read from the start of a code, finish a code with that number.
-use Rattle.std.specs.Prelude.{◌≡◌, refl, Bool, true, ◌&&◌, get_or, ltb, eqb, ◌⊎◌}
+use Rattle.std.specs.Prelude.{◌≡◌, refl, Bool, true, ◌&&◌, get_or, ltb, eqb}
 use Rattle.std.proofs.Common.{sym, ◌∙◌, le_refl, arith, le→leb, lt→ltb}
 use Rattle.std.proofs.Math.Path.{ap}
 use Prim.Native.Nat.{ℕ, zero, suc, ◌+◌, ◌-◌, ◌*◌, ◌/◌, ◌%◌, ◌≤◌, ◌<◌}

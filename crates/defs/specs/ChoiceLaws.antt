@@ -1,7 +1,7 @@
 -- `best` is the greatest total not over the room, and `choose` reaches it: document 01's `a set with the greatest total cost not over W − position`.
 -- Of the sets that reach it, `choose` gives the one that document 01's tie rule asks for.
-use Rattle.std.specs.Prelude.{◌≡◌, ℕ, ◌-◌, ◌<◌, Bool, true, false, not, List, [], ◌∷◌}
-use Rattle.laws.specs.Tools.{pick, total, sum_below, member}
+use Rattle.std.specs.Prelude.{◌≡◌, ℕ, ◌<◌, Bool, true, false, List, [], ◌∷◌}
+use Rattle.laws.specs.Tools.{pick, sum_below, member}
 use Rattle.laws.specs.Lists.{All}
 use Rattle.defs.specs.Order.{choose}
 

@@ -1,12 +1,10 @@
 -- Decoding undoes coding: the letters of a number, read from the start of a code, finish a code with that number.
 use Rattle.std.specs.Prelude.{◌≡◌, eqb, ◌⊎◌}
-use Prim.Native.Nat.{ℕ, ◌+◌, ◌-◌, ◌≤◌}
-use Rattle.std.proofs.Math.Option.{none}
+use Prim.Native.Nat.{ℕ, ◌+◌, ◌≤◌}
 use mathlib.Core.List.{List}
 use Rattle.std.proofs.Math.Dec.{T}
 use Rattle.laws.specs.Tools.{pick, member}
 use Rattle.defs.specs.Steps.{Step}
-use Rattle.defs.specs.Letters.{code}
 
 -- ---- the number of a step names that step
 

@@ -1,6 +1,6 @@
 -- No line of a compressed text exceeds the width, counting the first position on line one.
 use Rattle.std.specs.Prelude.{◌≡◌, false}
-use Prim.Native.Nat.{ℕ, ◌-◌, ◌≤◌}
+use Prim.Native.Nat.{ℕ, ◌≤◌}
 use mathlib.Core.List.{List}
 use Rattle.defs.specs.Check.{table_refusal}
 use Rattle.defs.specs.Layout.{Layout, bad8, widest}

@@ -1,7 +1,6 @@
 -- Ranges of what is written: step words, parents and distances fit their words, letters are bytes.
-use Prim.Native.Nat.{ℕ, ◌-◌, ◌≤◌, ◌<◌}
-use Rattle.defs.specs.Table.{max_child_refs, statements}
-use Rattle.defs.specs.Counts.{parents, distances}
+use Prim.Native.Nat.{ℕ, ◌≤◌, ◌<◌}
+use Rattle.defs.specs.Table.{max_child_refs}
 use Rattle.defs.specs.Steps.{Step}
 
 -- ---- steps

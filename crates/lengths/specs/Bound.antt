@@ -1,5 +1,5 @@
 -- How much room the packed walk needs, for its steps and its marks: at every moment of it, and at its end over a good table.
-use Rattle.std.specs.Prelude.{◌≡◌, ℕ, suc, ◌+◌, ◌-◌, ◌≤◌, Bool, replicate}
+use Rattle.std.specs.Prelude.{◌≡◌, ℕ, suc, ◌≤◌, Bool, replicate}
 use mathlib.Core.List.{List, [], ◌++◌}
 use Rattle.std.proofs.Math.ListN.{length}
 use Rattle.defs.specs.Table.{entries, qed}

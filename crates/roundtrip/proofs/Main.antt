@@ -2,17 +2,12 @@
 use Rattle.std.specs.Prelude.{◌≡◌, ℕ, ◌≤◌, false, List, length, drop}
 use Rattle.std.proofs.Common.{arith}
 use Rattle.std.proofs.Math.Seq.{take-append_seam}
-use Rattle.defs.specs.Table.{entries, qed}
-use Rattle.defs.specs.Check.{table_refusal}
-use Rattle.defs.specs.Graph.{graph_of, tree_of}
-use Rattle.defs.specs.Counts.{shared_size}
-use Rattle.defs.specs.Steps.{Step, flat, normal_count}
-use Rattle.defs.specs.Layout.{Layout, bad8}
-use Rattle.defs.specs.Text.{packed_of, normal_of, labels_of, letters_for}
-use Rattle.defs.specs.Refusals.{max_normal_steps, bad10, bad11, bad12}
+use Rattle.defs.specs.Steps.{Step, flat}
+use Rattle.defs.specs.Layout.{Layout}
+use Rattle.defs.specs.Text.{packed_of, labels_of, letters_for}
 use Rattle.defs.specs.Decode.{decode_outcome}
 use Rattle.lengths.specs.TableWalks.{packed_length}
-use Rattle.roundtrip.specs.Terms.{new_table, Reads, Decodes, written}
+use Rattle.roundtrip.specs.Terms.{Decodes, written}
 use Rattle.roundtrip.specs.Words.{ents, chil}
 use Rattle.roundtrip.proofs.ReadBack.{store, new_table_lem, normal_reads, packed_reads, unfold_back}
 use Rattle.roundtrip.proofs.LettersBack.{letters_decode}

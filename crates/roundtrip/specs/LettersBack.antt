@@ -1,11 +1,8 @@
 -- The letters of a covered table decode to its packed list: the list is readable, and its label list is not refused.
-use Rattle.std.specs.Prelude.{◌≡◌, ◌⊎◌, ℕ, ◌-◌, true, T}
-use Rattle.std.proofs.Math.Bool.{not}
+use Rattle.std.specs.Prelude.{◌≡◌, ◌⊎◌, ℕ, true, T}
 use mathlib.Core.List.{List}
 use Rattle.laws.specs.Tools.{member}
-use Rattle.defs.specs.Table.{statements}
 use Rattle.defs.specs.Steps.{Step, is_normal}
-use Rattle.lengths.specs.Walks.{packed}
 
 -- ---- the packed list is readable, wherever the statements of its normal steps are named
 

@@ -5,9 +5,7 @@ use Prim.Native.Nat.{ℕ, ◌<◌}
 use mathlib.Core.List.{List}
 use Rattle.std.proofs.Math.ListN.{length}
 use Rattle.defs.specs.Table.{statements, hyp_count}
-use Rattle.defs.specs.Checked.{sections}
 use Rattle.roundtrip.specs.Stores.{Ent}
-use Rattle.lengths.specs.Forests as F
 
 -- ---- the new table of a store
 

@@ -1,6 +1,5 @@
 -- `decode` meets its contract: the first i words are done.
 -- The measure is how many are left.
-use Prim.Native.Nat.{◌-◌}
 use native.Mathlib.Omega.{arith}
 use Rattle.table_file.proofs.WordLaws.{decoded_none, decoded_more}
 use Rattle.table_file.proofs.decode.Goals as goal

@@ -1,7 +1,6 @@
 -- `encode` meets its contract: the first i words are done.
 -- The measure is how many are left.
 use mathlib.Core.Path.{◌≡◌, sym, ap}
-use Prim.Native.Nat.{◌-◌}
 use native.Mathlib.Omega.{arith}
 use lib.ListN.{length}
 use Rattle.table_file.proofs.WordLaws.{encoded_none, encoded_more}

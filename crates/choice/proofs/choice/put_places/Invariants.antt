@@ -1,7 +1,7 @@
 -- `put_places` meets its contract. The invariant `Walked`: what is chosen of the items below i, before the places that stand, is the choice.
 -- A turn leaves its item out (`leave`) or puts its place in front (`put`).
 use mathlib.Core.Path.{◌≡◌}
-use Prim.Native.Nat.{◌-◌, ◌≤◌}
+use Prim.Native.Nat.{◌≤◌}
 use lib.ListN.{length}
 use Rattle.choice.specs.Rows.{cost_at}
 use Rattle.choice.proofs.Walk.{Walked}

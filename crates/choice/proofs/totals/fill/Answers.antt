@@ -1,7 +1,7 @@
 -- `fill` meets its contract. The invariant: the rows for none of the first i items to all of them hold the totals.
 -- A turn adds the row of one item more (`totals_more`).
 use mathlib.Core.Path.{◌≡◌, refl, ◌∙◌}
-use Prim.Native.Nat.{◌-◌, ◌<◌}
+use Prim.Native.Nat.{◌<◌}
 use native.Mathlib.Omega.{arith}
 use lib.ListN.{length, get_or}
 use Rattle.laws.specs.Lists.{all_at}

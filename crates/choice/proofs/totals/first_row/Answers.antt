@@ -1,7 +1,6 @@
 -- `first_row` meets its contract. The invariant is the contract at the counter: the cells before it hold 0.
 -- A turn writes one cell more.
 use mathlib.Core.Path.{refl, ◌∙◌}
-use Prim.Native.Nat.{◌-◌}
 use native.Mathlib.Omega.{arith}
 use lib.ListN.{length-set}
 use Rattle.choice.specs.Rows.{none}

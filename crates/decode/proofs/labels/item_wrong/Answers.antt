@@ -2,7 +2,6 @@
 -- The measure is what is left of the list.
 use mathlib.Core.Path.{refl, sym, ◌∙◌}
 use mathlib.Core.Bool.{true, false}
-use Prim.Native.Nat.{◌-◌}
 use native.Mathlib.Omega.{arith}
 use Rattle.decode.proofs.LabelLaws.{item_high, item_next, any_next, any_end}
 use Rattle.decode.proofs.labels.item_wrong.Goals as goal

@@ -1,7 +1,6 @@
 -- `all_letters` meets its contract. The code's state is that of the definition's reading of the letters so far.
 -- The measure is what is left of the letters.
 use mathlib.Core.Path.{◌∙◌}
-use Prim.Native.Nat.{◌-◌}
 use native.Mathlib.Omega.{arith}
 use Rattle.decode.proofs.LoopLaws.{read_none, ready, read_more, read_refused, read_inside, read_all}
 use Rattle.decode.proofs.reading.all_letters.Goals as goal

@@ -1,6 +1,5 @@
 -- `hash_of` is `hash_of`. Invariant: the hash is that of the bytes passed, and has 32 bits, so that no product leaves a word.
 -- Assumes nothing.
-use Prim.Native.Nat.{◌-◌}
 use mathlib.Core.Path.{◌≡◌}
 use native.Mathlib.Omega.{arith}
 use lib.ListN.{length}

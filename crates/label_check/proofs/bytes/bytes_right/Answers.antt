@@ -1,6 +1,5 @@
 -- `bytes_right` tests all bytes. Invariant: every byte passed is a label byte.
 -- One that is none decides at once. Assumes nothing.
-use Prim.Native.Nat.{◌-◌}
 use mathlib.Core.Path.{◌≡◌, sym, ◌∙◌}
 use native.Mathlib.Omega.{arith}
 use borrow.Author.Count.{below_none, below_more}

@@ -1,6 +1,6 @@
 -- `same_bytes` compares two lists of one length. Invariant: they agree at every place passed.
 -- The first difference decides; with none the lists are equal. Assumes nothing.
-use Prim.Native.Nat.{ℕ, ◌-◌}
+use Prim.Native.Nat.{ℕ}
 use mathlib.Core.List.{List}
 use mathlib.Core.Path.{◌≡◌, sym, ap}
 use native.Mathlib.Omega.{arith}

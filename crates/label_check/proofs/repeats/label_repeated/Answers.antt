@@ -1,6 +1,6 @@
 -- `label_repeated` searches pairs. Invariants: the label of k is none of those below j, no statement below k has an earlier label, and the
 -- labels below k fell into their buckets. A hit leaves both loops and decides; what is not compared is unlike. Assumes nothing.
-use Prim.Native.Nat.{ℕ, ◌<◌, ◌-◌}
+use Prim.Native.Nat.{ℕ, ◌<◌}
 use mathlib.Core.List.{List}
 use mathlib.Core.Path.{◌≡◌, refl, sym, ap, ◌∙◌}
 use native.Mathlib.Omega.{arith}

@@ -1,9 +1,9 @@
 -- `code_length` meets its contract. The limit is the least number that has more leading letters than were counted, and v has no fewer.
 -- The measure is how far the limit lies below v.
-use Prim.Native.Nat.{◌-◌, ◌/◌, ◌<◌}
+use Prim.Native.Nat.{◌/◌, ◌<◌}
 use native.Mathlib.Omega.{arith}
 use Rattle.letters.specs.Most.{most_letters}
-use Rattle.letters.proofs.Codes.{code_length, most, most_none, most_next, leads_few, leads_many, code_most}
+use Rattle.letters.proofs.Codes.{code_length, most_none, most_next, leads_few, leads_many, code_most}
 use Rattle.letters.proofs.code.code_length.Goals.{At-loop-limit}
 use Rattle.letters.proofs.code.code_length.Goals as goal
 

@@ -1,7 +1,6 @@
 -- `replay::all_steps` meets its contract. The invariant: the steps still to come, from where the replay stands, give what all steps gave at the start.
 -- The measure is how many are to come. Assumes nothing.
 use mathlib.Core.Path.{◌∙◌}
-use Prim.Native.Nat.{◌-◌}
 use native.Mathlib.Omega.{arith}
 use Rattle.replay.proofs.RunLaws.{run_starts, run_goes, run_refused, run_18, run_done}
 use Rattle.replay.proofs.run.all_steps.Goals as goal

@@ -2,7 +2,7 @@
 -- The measure is what is left of the length. Assumes nothing.
 use mathlib.Core.Path.{ap, refl, ◌∙◌}
 use mathlib.Core.List.{List}
-use Prim.Native.Nat.{ℕ, ◌-◌}
+use Prim.Native.Nat.{ℕ}
 use native.Mathlib.Omega.{arith}
 use lib.ListN.{set, length-set}
 use borrow.Author.Fill.{fill_none, fill_more}

@@ -1,7 +1,6 @@
 -- `packed_text` meets its contract: at turn i the words of the first i steps are laid. Every step is one of the table's,
 -- so what its word asks for is there.
 use mathlib.Core.Path.{◌∙◌}
-use Prim.Native.Nat.{◌-◌}
 use native.Mathlib.Omega.{arith}
 use Rattle.table.specs.Headers.{header_ok}
 use Rattle.steptexts.proofs.Lent.{Lent}

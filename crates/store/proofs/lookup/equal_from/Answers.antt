@@ -1,7 +1,6 @@
 -- `store::equal_from` meets its contract. The invariant: what is still to be compared is the same exactly if the whole is.
 -- The measure is what is left of the list wanted. Assumes nothing.
 use mathlib.Core.Path.{refl, sym, ◌∙◌}
-use Prim.Native.Nat.{◌-◌}
 use native.Mathlib.Omega.{arith}
 use Rattle.store.proofs.LookupLaws.{same_all, same_end, same_next, same_not}
 use Rattle.store.proofs.lookup.equal_from.Goals as goal
