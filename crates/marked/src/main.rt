@@ -2,8 +2,9 @@
 // back, label list and letters, the five texts; then its other marked cases and run values. Crate defs proves what the definitions
 // give for the marked cases; here the code is run, and what it prints is stored.
 #![tactic(auto)]
+
 use layout::Layout;
-use libc::STDOUT_FILENO;
+use std::io;
 
 // `wa` floating, `ha` essential, `op` (`wx`, `wy`), `wx`, `wy` floating, `hx` essential, `ru` (`wx`, `hx`), `th` (`wa`, `ha`);
 // entries wa; op(0,0); op(1,1); ha; ru(2,3); QED 4.
@@ -33,107 +34,72 @@ const TABLE_BLOCKS: [u32; 151] = [
 
 const LABELS: [u8; 16] = *b"wahaopwxwyhxruth";
 
-fn print(text: &[u8]) {
-    io::write_all(STDOUT_FILENO, text);
-}
-
-// As a call, a cast of a slice's element is known to fit.
-fn wide(word: u32) -> u64 {
-    word as u64
-}
-
-fn wide_distance(distance: u16) -> u64 {
-    distance as u64
-}
-
-// A line of numbers; past the end of the slice nothing is printed.
-fn print_numbers(numbers: &[u32], count: usize) {
-    let mut i: usize = 0;
-    while i < count {
-        if i < numbers.len() {
-            print(b" ");
-            io::print_decimal(STDOUT_FILENO, wide(numbers[i]));
-        }
-        i += 1;
+// Up to so many numbers, a blank before each, then a newline; past the end of the slice nothing is printed.
+fn print_numbers(rt: &impl Print, numbers: &[u32], count: usize) -> io::Result<()> {
+    for number in &numbers[..count.min(numbers.len())] {
+        print!(rt; " {number}")?;
     }
-    print(b"\n");
+    println!(rt)
 }
 
 // The same of distances.
-fn print_distances(distances: &[u16], count: usize) {
-    let mut i: usize = 0;
-    while i < count {
-        if i < distances.len() {
-            print(b" ");
-            io::print_decimal(STDOUT_FILENO, wide_distance(distances[i]));
-        }
-        i += 1;
+fn print_distances(rt: &impl Print, distances: &[u16], count: usize) -> io::Result<()> {
+    for distance in &distances[..count.min(distances.len())] {
+        print!(rt; " {distance}")?;
     }
-    print(b"\n");
+    println!(rt)
 }
 
 // Those from a place on.
-fn print_from(numbers: &[u16], start: usize) {
-    let mut i = start;
-    while i < numbers.len() {
-        print(b" ");
-        io::print_decimal(STDOUT_FILENO, wide_distance(numbers[i]));
-        i += 1;
+fn print_from(rt: &impl Print, numbers: &[u16], start: usize) -> io::Result<()> {
+    for number in &numbers[start.min(numbers.len())..] {
+        print!(rt; " {number}")?;
     }
-    print(b"\n");
+    println!(rt)
 }
 
-// The number of an answer and the length that it wrote.
-fn print_answer(number: u32, length: usize) {
-    print(b" answer ");
-    io::print_decimal(STDOUT_FILENO, number as u64);
-    print(b", length ");
-    io::print_decimal(STDOUT_FILENO, length as u64);
-    print(b":");
+// What is answered, the number of the answer, and the length that it wrote.
+fn print_answer(rt: &impl Print, what: &str, number: u32, length: usize) -> io::Result<()> {
+    print!(rt; "{what} answer {number}, length {length}:")
 }
 
-fn show_parents(words: &[u32]) {
+fn show_parents(rt: &impl Print, words: &[u32]) -> io::Result<()> {
     let mut out = [0u32; 8];
     let answer = counts::parents::parents(words, &LABELS, &mut out);
-    print(b"parents");
-    print_answer(answer.number, answer.length);
-    print_numbers(&out, answer.length);
+    print_answer(rt, "parents", answer.number, answer.length)?;
+    print_numbers(rt, &out, answer.length)
 }
 
-fn show_distances(words: &[u32]) {
+fn show_distances(rt: &impl Print, words: &[u32]) -> io::Result<()> {
     let mut out = [0u16; 8];
     let answer = counts::distances::distances(words, &LABELS, &mut out);
-    print(b"distances");
-    print_answer(answer.number, answer.length);
-    print_distances(&out, answer.length);
+    print_answer(rt, "distances", answer.number, answer.length)?;
+    print_distances(rt, &out, answer.length)
 }
 
-fn show_packed(words: &[u32], explicit: bool) {
+fn show_packed(rt: &impl Print, words: &[u32], explicit: bool) -> io::Result<()> {
     let mut work = [0u32; 256];
     let mut out = [0u32; 64];
     let answer = lists::packed::packed_list(words, &LABELS, explicit, &mut work, &mut out);
-    print(b"packed");
-    print_answer(answer.number, answer.length);
-    print_numbers(&out, answer.length);
+    print_answer(rt, "packed", answer.number, answer.length)?;
+    print_numbers(rt, &out, answer.length)
 }
 
-fn show_normal(words: &[u32], explicit: bool) {
+fn show_normal(rt: &impl Print, words: &[u32], explicit: bool) -> io::Result<()> {
     let mut work = [0u32; 256];
     let mut out = [0u32; 64];
     let answer = lists::normal::normal_list(words, &LABELS, explicit, &mut work, &mut out);
-    print(b"normal");
-    print_answer(answer.number, answer.length);
-    print_numbers(&out, answer.length);
+    print_answer(rt, "normal", answer.number, answer.length)?;
+    print_numbers(rt, &out, answer.length)
 }
 
 // The letters `AACZECBD` with the label list `op`, `ru`, decoded, and what is decoded read into entries and children.
-fn show_reading(words: &[u32]) {
+fn show_reading(rt: &impl Print, words: &[u32]) -> io::Result<()> {
     let list = [2u32, 6];
     let mut steps = [0u32; 35];
     let decoded = decode::decode(words, &LABELS, &list, b"AACZECBD", &mut steps);
-    print(b"decoded");
-    print_answer(decoded.number, decoded.length);
-    print_numbers(&steps, decoded.length);
+    print_answer(rt, "decoded", decoded.number, decoded.length)?;
+    print_numbers(rt, &steps, decoded.length)?;
     let mut work = [0u32; 16];
     let mut entries = [0u32; 18];
     let mut children = [0u32; 8];
@@ -145,23 +111,21 @@ fn show_reading(words: &[u32]) {
         &mut entries,
         &mut children,
     );
-    print(b"entries");
-    print_answer(read.number, read.first);
-    print_numbers(&entries, read.first);
-    print(b"children");
-    print_answer(read.number, read.second);
-    print_numbers(&children, read.second);
+    print_answer(rt, "entries", read.number, read.first)?;
+    print_numbers(rt, &entries, read.first)?;
+    print_answer(rt, "children", read.number, read.second)?;
+    print_numbers(rt, &children, read.second)
 }
 
 // Bytes up to a length; past the end of the slice nothing is printed.
-fn print_bytes(bytes: &[u8], count: usize) {
+fn print_bytes(rt: &impl Print, bytes: &[u8], count: usize) -> io::Result<()> {
     if count <= bytes.len() {
-        print(&bytes[..count]);
+        rt.write_all(&bytes[..count])?;
     }
-    print(b"\n");
+    println!(rt)
 }
 
-fn show_letters(words: &[u32]) {
+fn show_letters(rt: &impl Print, words: &[u32]) -> io::Result<()> {
     let mut work = [0u32; 256];
     let mut sums = [0u16; 675];
     let mut list = [0u32; 8];
@@ -175,110 +139,112 @@ fn show_letters(words: &[u32]) {
         &mut list,
         &mut letters,
     );
-    print(b"labels");
-    print_answer(answer.number, answer.first);
-    print_numbers(&list, answer.first);
-    print(b"letters");
-    print_answer(answer.number, answer.second);
-    print(b" ");
-    print_bytes(&letters, answer.second);
+    print_answer(rt, "labels", answer.number, answer.first)?;
+    print_numbers(rt, &list, answer.first)?;
+    print_answer(rt, "letters", answer.number, answer.second)?;
+    print!(rt; " ")?;
+    print_bytes(rt, &letters, answer.second)
 }
 
-fn show_text(words: &[u32], labels: &[u8], style: u32, layout: Layout) {
+fn show_text(
+    rt: &impl Print,
+    words: &[u32],
+    labels: &[u8],
+    style: u32,
+    layout: Layout,
+) -> io::Result<()> {
     let mut work = [0u32; 256];
     let mut sums = [0u16; 1725];
     let mut out = [0u8; 256];
     let answer = text::text(words, labels, style, layout, &mut work, &mut sums, &mut out);
-    print(b"text");
-    print_answer(answer.number, answer.length);
-    print(b"\n");
-    print_bytes(&out, answer.length);
+    print_answer(rt, "text", answer.number, answer.length)?;
+    println!(rt)?;
+    print_bytes(rt, &out, answer.length)
 }
 
-fn show_texts(words: &[u32]) {
-    show_text(words, &LABELS, 0, Layout::standard());
-    show_text(words, &LABELS, 1, Layout::standard());
-    show_text(words, &LABELS, 2, Layout::standard());
-    show_text(words, &LABELS, 3, Layout::standard());
-    show_text(words, &LABELS, 4, Layout::standard());
+fn show_texts(rt: &impl Print, words: &[u32]) -> io::Result<()> {
+    show_text(rt, words, &LABELS, 0, Layout::standard())?;
+    show_text(rt, words, &LABELS, 1, Layout::standard())?;
+    show_text(rt, words, &LABELS, 2, Layout::standard())?;
+    show_text(rt, words, &LABELS, 3, Layout::standard())?;
+    show_text(rt, words, &LABELS, 4, Layout::standard())?;
     let narrow = Layout {
         width: 16,
         indent: 6,
         first: 0,
     };
-    show_text(words, &LABELS, 0, narrow);
+    show_text(rt, words, &LABELS, 0, narrow)
 }
 
 // 19 is `T`, 20 `UA`, 119 `YT`, 120 `UUA`.
-fn show_code(v: u32) {
+fn show_code(rt: &impl Print, v: u32) -> io::Result<()> {
     let mut out = [0u8; 13];
     let end = letters::code::put_code(v, 0, &mut out);
-    print(b"code ");
-    print_bytes(&out, end);
+    print!(rt; "code ")?;
+    print_bytes(rt, &out, end)
 }
 
 // Costs 5, 3, 4, 2 with room 7 choose the second and third: their places end the sums.
-fn show_choice() {
+fn show_choice(rt: &impl Print) -> io::Result<()> {
     let costs = [5u32, 3, 4, 2];
     let block = [0u32, 1, 2, 3];
     let mut sums = [0u16; 40];
     let choice = choice::choose(&costs, &block, 7, &mut sums);
-    print(b"chosen, of total ");
-    io::print_decimal(STDOUT_FILENO, choice.total as u64);
-    print(b":");
-    print_from(&sums, choice.start);
+    let total = choice.total;
+    print!(rt; "chosen, of total {total}:")?;
+    print_from(rt, &sums, choice.start)
 }
 
 // A table of one entry, whose label has 73 or 74 bytes; the theorem's label is the last byte.
-fn show_long(length: u32, labels: &[u8]) {
+fn show_long(rt: &impl Print, length: u32, labels: &[u8]) -> io::Result<()> {
     let words = [
         2, 0, 1, 0, 10, 20, 20, 23, 1, 0, 0, 0, length, 0, 0, 0, length, 1, 0, 0, 0, 0, 0u32,
     ];
-    show_text(&words, labels, 0, Layout::standard());
+    show_text(rt, &words, labels, 0, Layout::standard())
 }
 
-fn show_others() {
-    show_code(19);
-    show_code(20);
-    show_code(119);
-    show_code(120);
-    show_choice();
+fn show_others(rt: &impl Print) -> io::Result<()> {
+    show_code(rt, 19)?;
+    show_code(rt, 20)?;
+    show_code(rt, 119)?;
+    show_code(rt, 120)?;
+    show_choice(rt)?;
     let mut labels = [b'a'; 75];
     labels[73] = b't';
-    show_long(73, &labels[..74]);
+    show_long(rt, 73, &labels[..74])?;
     labels[73] = b'a';
     labels[74] = b't';
-    show_long(74, &labels);
-    print(b"blocks start from the floating count\n");
+    show_long(rt, 74, &labels)?;
+    println!(rt; "blocks start from the floating count")?;
     show_text(
+        rt,
         &TABLE_BLOCKS,
         b"abcdefghijklmnopqrstuv",
         0,
         Layout::standard(),
-    );
+    )?;
     let no_entry = [1, 0, 0, 0, 10, 15, 15, 15, 0, 0, 0, 0, 1, 0, 0u32];
-    print(b"n = 0: ");
-    io::print_decimal(STDOUT_FILENO, table_check::check(&no_entry, b"t") as u64);
-    print(b"\n");
+    let number = table_check::check(&no_entry, b"t");
+    println!(rt; "n = 0: {number}")
 }
 
-fn show(words: &[u32]) {
-    show_parents(words);
-    show_distances(words);
-    show_normal(words, false);
-    show_packed(words, false);
-    show_normal(words, true);
-    show_packed(words, true);
-    show_reading(words);
-    show_letters(words);
-    show_texts(words);
+fn show(rt: &impl Print, words: &[u32]) -> io::Result<()> {
+    show_parents(rt, words)?;
+    show_distances(rt, words)?;
+    show_normal(rt, words, false)?;
+    show_packed(rt, words, false)?;
+    show_normal(rt, words, true)?;
+    show_packed(rt, words, true)?;
+    show_reading(rt, words)?;
+    show_letters(rt, words)?;
+    show_texts(rt, words)
 }
 
-fn main() {
-    print(b"E\n");
-    show(&TABLE_E);
-    print(b"E plus unreachable op(2,3)\n");
-    show(&TABLE_E2);
-    print(b"others\n");
-    show_others();
+fn main(rt: HostRuntime) -> io::Result<()> {
+    println!(rt; "E")?;
+    show(&rt, &TABLE_E)?;
+    println!(rt; "E plus unreachable op(2,3)")?;
+    show(&rt, &TABLE_E2)?;
+    println!(rt; "others")?;
+    show_others(&rt)
 }

@@ -6,7 +6,7 @@ ghost use Rattle.vectors.specs.Answers.{answer_of, parents_answer, distances_ans
 use crate::hash::{hash_bytes, hash_shorts, hash_words};
 use layout::Layout;
 
-#[derive(Drop)]
+#[derive(Clone, Copy)]
 pub struct Answer {
     pub number: u32,
     pub length: usize,
@@ -14,7 +14,7 @@ pub struct Answer {
 }
 
 // Of an operation with two outputs.
-#[derive(Drop)]
+#[derive(Clone, Copy)]
 pub struct Answers {
     pub labels: Answer,
     pub letters: Answer,

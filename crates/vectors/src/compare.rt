@@ -25,7 +25,7 @@ fn left(stored: &[u8], at: usize) -> usize
 }
 
 // Counts an answer as equal to the stored one or different from it.
-fn judge(tally: Tally, name: &[u8], answer: Answer, length: u32, hash: u32) -> Tally
+fn judge(rt: &impl Print, tally: Tally, name: &str, answer: Answer, length: u32, hash: u32) -> Tally
     ensures { result ≡ judged tally answer length hash }
 {
     if length == LEFT_OUT {
@@ -34,12 +34,12 @@ fn judge(tally: Tally, name: &[u8], answer: Answer, length: u32, hash: u32) -> T
     if is_stored(answer, length as usize, hash as u64) {
         return tally.with_equal();
     }
-    tally.print_difference(name);
+    tally.print_difference(rt, name);
     tally.with_different()
 }
 
 // Compares an answer with the stored one, which is the next in the data.
-fn compare(stored: &[u8], tally: Tally, name: &[u8], answer: Answer) -> Tally
+fn compare(rt: &impl Print, stored: &[u8], tally: Tally, name: &str, answer: Answer) -> Tally
     ensures { result ≡ compared stored.now tally answer }
 {
     let at = tally.at;
@@ -48,10 +48,11 @@ fn compare(stored: &[u8], tally: Tally, name: &[u8], answer: Answer) -> Tally
     }
     let length = word(stored, at);
     let hash = word(stored, at + 4);
-    judge(tally.moved_to(at + 8), name, answer, length, hash)
+    judge(rt, tally.moved_to(at + 8), name, answer, length, hash)
 }
 
 fn compare_counts(
+    rt: &impl Print,
     stored: &[u8],
     tally: Tally,
     words: &[u32],
@@ -63,11 +64,12 @@ fn compare_counts(
 {
     let parents = answers::parents(words, labels, out);
     let distances = answers::distances(words, labels, sums);
-    let between = compare(stored, tally, b"parents", parents);
-    compare(stored, between, b"distances", distances)
+    let between = compare(rt, stored, tally, "parents", parents);
+    compare(rt, stored, between, "distances", distances)
 }
 
 fn compare_lists(
+    rt: &impl Print,
     stored: &[u8],
     tally: Tally,
     words: &[u32],
@@ -78,20 +80,20 @@ fn compare_lists(
     ensures { result ≡ lists_compared stored.now tally words.now labels.now work.old out.old }
 {
     let normal = answers::normal(words, labels, false, work, out);
-    let first = compare(stored, tally, b"normal list", normal);
+    let first = compare(rt, stored, tally, "normal list", normal);
     let explicit = answers::normal(words, labels, true, work, out);
-    let second = compare(stored, first, b"explicit normal list", explicit);
+    let second = compare(rt, stored, first, "explicit normal list", explicit);
     let packed = answers::packed(words, labels, false, work, out);
-    let third = compare(stored, second, b"packed list", packed);
+    let third = compare(rt, stored, second, "packed list", packed);
     let packed_explicit = answers::packed(words, labels, true, work, out);
-    compare(stored, third, b"explicit packed list", packed_explicit)
+    compare(rt, stored, third, "explicit packed list", packed_explicit)
 }
 
-// Five bytes for each style.
-const TEXT_NAMES: [u8; 25] = *b"text0text1text2text3text4";
+const TEXT_NAMES: [&str; 5] = ["text0", "text1", "text2", "text3", "text4"];
 
 // The five texts in one layout.
 fn compare_texts(
+    rt: &impl Print,
     stored: &[u8],
     tally: Tally,
     words: &[u32],
@@ -108,8 +110,7 @@ fn compare_texts(
     let mut style: u32 = 0;
     while style < 5 {
         let answer = answers::text(words, labels, style, layout, work, sums, bytes);
-        let from = 5 * style as usize;
-        now = compare(stored, now, &TEXT_NAMES[from..from + 5], answer);
+        now = compare(rt, stored, now, TEXT_NAMES[style as usize], answer);
         style += 1;
     }
     now
@@ -117,6 +118,7 @@ fn compare_texts(
 
 // Label list, letters and texts in the layout that is the next in the data.
 fn compare_layout(
+    rt: &impl Print,
     stored: &[u8],
     tally: Tally,
     words: &[u32],
@@ -140,12 +142,15 @@ fn compare_layout(
     };
     let begun = tally.moved_to(at + 12).with_layout();
     let both = answers::label_letters(words, labels, layout, work, sums, out, bytes);
-    let listed = compare(stored, begun, b"label list", both.labels);
-    let lettered = compare(stored, listed, b"letters", both.letters);
-    compare_texts(stored, lettered, words, labels, layout, work, sums, bytes)
+    let listed = compare(rt, stored, begun, "label list", both.labels);
+    let lettered = compare(rt, stored, listed, "letters", both.letters);
+    compare_texts(
+        rt, stored, lettered, words, labels, layout, work, sums, bytes,
+    )
 }
 
 fn compare_layouts(
+    rt: &impl Print,
     stored: &[u8],
     tally: Tally,
     layouts: u32,
@@ -159,7 +164,7 @@ fn compare_layouts(
     let mut now = tally;
     let mut i: u32 = 0;
     while i < layouts {
-        now = compare_layout(stored, now, words, labels, work, sums, out, bytes);
+        now = compare_layout(rt, stored, now, words, labels, work, sums, out, bytes);
         if !now.well_formed {
             return now;
         }
@@ -169,6 +174,7 @@ fn compare_layouts(
 }
 
 fn compare_answers(
+    rt: &impl Print,
     stored: &[u8],
     tally: Tally,
     layouts: u32,
@@ -179,16 +185,17 @@ fn compare_answers(
     out: &mut [u32],
     bytes: &mut [u8],
 ) -> Tally {
-    let counted = compare_counts(stored, tally, words, labels, sums, out);
-    let listed = compare_lists(stored, counted, words, labels, work, out);
+    let counted = compare_counts(rt, stored, tally, words, labels, sums, out);
+    let listed = compare_lists(rt, stored, counted, words, labels, work, out);
     compare_layouts(
-        stored, listed, layouts, words, labels, work, sums, out, bytes,
+        rt, stored, listed, layouts, words, labels, work, sums, out, bytes,
     )
 }
 
 // The table that is the next in the data: the number of its words, of its label bytes and of the layouts; its words and label bytes;
 // then the answers.
 pub fn compare_table(
+    rt: &impl Print,
     stored: &[u8],
     tally: Tally,
     words: &mut [u32],
@@ -219,6 +226,7 @@ pub fn compare_table(
     decode(&stored[start..middle], words);
     let begun = tally.moved_to(end).with_table();
     compare_answers(
+        rt,
         stored,
         begun,
         layouts,

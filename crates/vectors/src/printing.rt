@@ -1,10 +1,6 @@
-// Bytes and numbers printed.
-use libc::STDOUT_FILENO;
+// Text printed. Where standard output takes no more, the rest is not printed: the program has no other place to say so.
+use std::fmt::Display;
 
-pub fn print(text: &[u8]) {
-    io::write_all(STDOUT_FILENO, text);
-}
-
-pub fn print_number(number: u64) {
-    io::print_decimal(STDOUT_FILENO, number);
+pub fn print(rt: &impl Print, text: impl Display + Drop) {
+    let _ = rt.print(text);
 }

@@ -2,9 +2,9 @@
 ghost use Rattle.std.specs.Prelude.{◌≡◌};
 ghost use Rattle.vectors.specs.Tallies.{more, nothing_yet, malformed_at, moved_to, with_table, with_layout, with_equal, with_different};
 
-use crate::printing::{print, print_number};
+use crate::printing::print;
 
-#[derive(Drop)]
+#[derive(Clone, Copy)]
 pub struct Tally {
     // the place in the data
     pub at: usize,
@@ -77,28 +77,27 @@ impl Tally {
     }
 
     // Tables and layouts are counted from 1; a line with layout 0 is of an answer that needs none.
-    pub fn print_difference(self, name: &[u8]) {
-        print(b"table ");
-        print_number(self.tables);
-        print(b", layout ");
-        print_number(self.layouts);
-        print(b": ");
-        print(name);
-        print(b" differs\n");
+    pub fn print_difference(self, rt: &impl Print, name: &str) {
+        let table = self.tables;
+        let layout = self.layouts;
+        print(
+            rt,
+            format_args!("table {table}, layout {layout}: {name} differs\n"),
+        );
     }
 
-    pub fn print_end(self) {
+    pub fn print_end(self, rt: &impl Print) {
+        let at = self.at;
         if !self.well_formed {
-            print(b"malformed data at byte ");
-            print_number(self.at as u64);
-            print(b"\n");
+            print(rt, format_args!("malformed data at byte {at}\n"));
         }
-        print_number(self.tables);
-        print(b" tables, ");
-        print_number(self.compared);
-        print(b" answers compared, ");
-        print_number(self.different);
-        print(b" different\n");
+        let tables = self.tables;
+        let compared = self.compared;
+        let different = self.different;
+        print(
+            rt,
+            format_args!("{tables} tables, {compared} answers compared, {different} different\n"),
+        );
     }
 }
 

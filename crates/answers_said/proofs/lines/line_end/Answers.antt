@@ -4,7 +4,7 @@ use Rattle.answers_said.proofs.LineLaws.{line_ends, line_goes_on, text_ends}
 use Rattle.answers_said.specs.Lines.{line_length}
 use native.Mathlib.Omega.{arith}
 use lib.ListN.{drop}
-use Prim.Native.Nat.{◌+◌, ◌-◌, suc}
+use Prim.Native.Nat.{◌+◌, suc}
 use mathlib.Core.Path.{◌≡◌, refl}
 use Rattle.answers_said.proofs.lines.line_end.Goals as goal
 

@@ -3,7 +3,6 @@
 use Rattle.answers_said.proofs.LineLaws.{next_line, no_more_lines}
 use Rattle.answers_said.specs.Lines.{from_line}
 use native.Mathlib.Omega.{arith}
-use Prim.Native.Nat.{◌-◌}
 use mathlib.Core.Path.{◌≡◌, refl}
 use Rattle.answers_said.proofs.lines.line_start.Goals as goal
 

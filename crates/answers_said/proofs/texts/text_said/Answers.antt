@@ -7,9 +7,8 @@ use borrow.Rule.Slice.PartMut.{put_mid, same_len_mid, mid_len}
 use native.Mathlib.Omega.{arith}
 use lib.Seq.{length-take-le}
 use lib.ListN.{length, take}
-use Prim.Native.Nat.{ℕ, ◌-◌, ◌≤◌}
+use Prim.Native.Nat.{◌-◌, ◌≤◌}
 use mathlib.Core.Path.{◌≡◌, refl, sym, ◌∙◌}
-use mathlib.Core.List.{List}
 use Rattle.answers_said.proofs.texts.text_said.Goals.{After-text-answer}
 use Rattle.answers_said.proofs.texts.text_said.Goals as goal
 

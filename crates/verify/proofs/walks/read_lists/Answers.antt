@@ -1,9 +1,7 @@
 -- `verify::read_lists` meets its contract: the end of the packed list, the verdict on the normal list where it is not yes, or what is kept.
 -- What is kept stands in its slices, which the normal list does not touch. Assumes nothing.
-use native.Mathlib.Omega.{arith}
 use mathlib.Core.Path.{sym}
 use lib.Seq.{length-take-le}
-use mathlib.Core.Logic.{⊎_elim}
 use Rattle.verify.proofs.WalkLaws.{held, first_ended, normal_ended, both_read}
 use Rattle.verify.proofs.walks.read_lists.Goals as goal
 
