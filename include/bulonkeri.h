@@ -1,6 +1,6 @@
 /* Bulonkeri: the proved printer and reader of Metamath proofs, over C.
  *
- * Link with the archive that `rt staticlib capi` writes (target/staticlib/libcapi.a). Every function is proved, in Rattle, to give
+ * Link with the archive that `tools/library` writes (target/staticlib/libcapi.a). Every function is proved, in Rattle, to give
  * the answer that docs/CONTRACTS.md states, on any input: any words, any bytes, any lengths.
  *
  * A slice is a pointer and a number of elements. The caller owns every slice; the library keeps none, allocates nothing and has no

@@ -1,4 +1,4 @@
-//! Finds the static library that `rt staticlib capi` writes, and has it linked.
+//! Finds the static library that `tools/library` writes, and has it linked.
 use std::path::PathBuf;
 use std::{env, fs};
 
@@ -22,7 +22,7 @@ fn main() {
             println!("cargo::rustc-link-lib=static=capi");
         }
         Err(fault) => println!(
-            "cargo::error=no {} ({fault}): run `rt staticlib capi` at the project's root, or set {FOLDER_VARIABLE} to the folder that has {LIBRARY}",
+            "cargo::error=no {} ({fault}): run `tools/library` at the project's root, or set {FOLDER_VARIABLE} to the folder that has {LIBRARY}",
             library.display()
         ),
     }
