@@ -13,11 +13,11 @@ use Rattle.theorem.proofs.hypotheses.theorem_list.Goals as goal
 start_is : (c : After-hyp_count) → c.hyp_start-start.result ≡ hyp_start_in (statement_words c.args.words.now) (theorem c.args.words.now)
 start_is c = c.hyp_start-start.ensures ∙ rw (c.statement_section-statements.ensures, c.read_header.ensures.theorem_is)
 
-count-is : (c : After-hyp_count) → c.hyp_count.result ≡ hyp_count_in (statement_words c.args.words.now) (theorem c.args.words.now)
-count-is c = c.hyp_count.ensures ∙ rw (c.statement_section-statements.ensures, c.read_header.ensures.theorem_is)
+count_is : (c : After-hyp_count) → c.hyp_count.result ≡ hyp_count_in (statement_words c.args.words.now) (theorem c.args.words.now)
+count_is c = c.hyp_count.ensures ∙ rw (c.statement_section-statements.ensures, c.read_header.ensures.theorem_is)
 
 inside : (c : After-hyp_count) → c.hyp_start-start.result + c.hyp_count.result ≤ length c.hyp_section-hyps.result.now
-inside c = rw (start_is c, count-is c, c.hyp_section-hyps.ensures) (list_in _ c.requires)
+inside c = rw (start_is c, count_is c, c.hyp_section-hyps.ensures) (list_in _ c.requires)
 
 pub hyp_start-start-requires : goal.hyp_start-start-requires
 hyp_start-start-requires c = rw (c.statement_section-statements.ensures, c.read_header.ensures.theorem_is) (theorem_in _ c.requires)
@@ -37,4 +37,4 @@ slice_bounds-result-end c = inside c
 pub returns : goal.returns
 returns c =
     rw c.hyp_section-hyps.ensures
-    (list_is _ c.requires _ _ (start_is (goal.at.returns c).After-hyp_count) (ap (λ (n : ℕ). c.hyp_start-start.result + n) (count-is (goal.at.returns c).After-hyp_count)))
+    (list_is _ c.requires _ _ (start_is (goal.at.returns c).After-hyp_count) (ap (λ (n : ℕ). c.hyp_start-start.result + n) (count_is (goal.at.returns c).After-hyp_count)))
