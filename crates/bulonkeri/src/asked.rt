@@ -1,10 +1,12 @@
 // Which command is asked for. Where it is none, or its arguments are wrong, one line says so and nothing is done.
+use crate::arguments::argument_count;
 use crate::lines::line_named;
 use crate::list::ListKind;
 use crate::texting::TextForm;
 use crate::usage::{arguments_error, usage};
 use crate::{letters, list, texting, verifying};
 use layout::Layout;
+use std::env::Env;
 
 #[derive(Drop)]
 pub enum Command {
@@ -28,46 +30,50 @@ pub enum Asked {
 }
 
 // Wrong arguments of the command with this number, the place of its name in `command_named`.
-pub fn wrong(number: usize) -> Asked {
-    arguments_error(number);
+pub fn wrong(rt: &(impl Print + Eprint), number: usize) -> Asked {
+    arguments_error(rt, number);
     Asked::Nothing
 }
 
 // A command that takes so many arguments; the program's name and the command's are counted too.
-fn with_arguments(count: usize, command: Command, number: usize) -> Asked {
-    if os::arg_count() != count {
-        return wrong(number);
+fn with_arguments(
+    rt: &(impl Env + Print + Eprint),
+    count: usize,
+    command: Command,
+    number: usize,
+) -> Asked {
+    if argument_count(rt) != count {
+        return wrong(rt, number);
     }
     Asked::For(command)
 }
 
-fn command_named(name: &[u8]) -> Asked {
+fn command_named(rt: &(impl Env + Print + Eprint), name: &[u8]) -> Asked {
     let number = line_named(
         b"check\nparents\ndistances\nlist\nletters\ntext\nverify\nclean\n",
         name,
     );
     match number {
-        0 => with_arguments(3, Command::Check, number),
-        1 => with_arguments(3, Command::Parents, number),
-        2 => with_arguments(3, Command::Distances, number),
-        3 => list::read_command(number),
-        4 => letters::read_command(number),
-        5 => texting::read_command(number),
-        6 => verifying::read_command(number),
-        7 => with_arguments(4, Command::Clean, number),
-        _ => wrong(number),
+        0 => with_arguments(rt, 3, Command::Check, number),
+        1 => with_arguments(rt, 3, Command::Parents, number),
+        2 => with_arguments(rt, 3, Command::Distances, number),
+        3 => list::read_command(rt, number),
+        4 => letters::read_command(rt, number),
+        5 => texting::read_command(rt, number),
+        6 => verifying::read_command(rt, number),
+        7 => with_arguments(rt, 4, Command::Clean, number),
+        _ => wrong(rt, number),
     }
 }
 
-pub fn read_command() -> Asked {
-    if os::arg_count() < 2 {
-        usage();
+pub fn read_command(rt: &(impl Env + Print + Eprint)) -> Asked {
+    if argument_count(rt) < 2 {
+        usage(rt);
         return Asked::Nothing;
     }
     let mut name = [0u8; 16];
-    let length = os::arg(1, &mut name);
-    if os::errno() != 0 {
-        return wrong(NO_COMMAND);
-    }
-    command_named(&name[..length])
+    let Ok(length) = rt.arg(1, &mut name) else {
+        return wrong(rt, NO_COMMAND);
+    };
+    command_named(rt, &name[..length])
 }

@@ -8,26 +8,26 @@ use crate::refusals::refused;
 use table::header::read_header;
 use table_check::check;
 
-fn print_counts(words: &[u32])
+fn print_counts(rt: &(impl Print + Eprint), words: &[u32])
     requires { header_size ≤ length words.now }
 {
     let header = read_header(words);
-    print(b"done: ");
-    print_number(header.statements, b' ');
-    print(b"statements, ");
-    print_number(words[1], b' ');
-    print(b"hypothesis references, ");
-    print_number(header.entries, b' ');
-    print(b"entries, ");
-    print_number(words[3], b' ');
-    print(b"child references\n");
+    print(rt, b"done: ");
+    print_number(rt, header.statements, b' ');
+    print(rt, b"statements, ");
+    print_number(rt, words[1], b' ');
+    print(rt, b"hypothesis references, ");
+    print_number(rt, header.entries, b' ');
+    print(rt, b"entries, ");
+    print_number(rt, words[3], b' ');
+    print(rt, b"child references\n");
 }
 
-pub fn run(words: &[u32], labels: &[u8]) {
+pub fn run(rt: &(impl Print + Eprint), words: &[u32], labels: &[u8]) {
     let number = check(words, labels);
     if number != 0 {
-        refused(number);
+        refused(rt, number);
         return;
     }
-    print_counts(words);
+    print_counts(rt, words);
 }

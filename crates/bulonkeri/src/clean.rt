@@ -4,6 +4,7 @@ ghost use Rattle.std.specs.Prelude.{◌≤◌, length};
 ghost use Rattle.io.specs.Counts.{IsPrefixLen};
 ghost use Rattle.new_table.specs.NewTables.{most_entry_words, most_child_words, Renewable};
 
+use crate::arguments::{NAME_BYTES, name_argument};
 use crate::errors::file_error;
 use crate::limits::{CHILD_WORDS, ENTRY_WORDS, LIST_WORDS, WORK_WORDS};
 use crate::numbers::print_number;
@@ -12,6 +13,8 @@ use crate::refusals::refused;
 use crate::writing::write_table;
 use lists::packed::packed_list;
 use new_table::entry_count;
+use std::env::Env;
+use std::fs::{Files, OpenOptions, remove_file};
 use table::{Written, WrittenTwo};
 use table_check::check;
 
@@ -37,44 +40,77 @@ fn read_back(
 }
 
 // A file that is there already is not overwritten, and one that cannot be written whole is removed.
-fn store(path: &[u8], words: &[u32], labels: &[u8], entries: &[u32], children: &[u32]) -> bool
+fn store(
+    rt: &(impl Files + Print + Eprint),
+    path: &str,
+    words: &[u32],
+    labels: &[u8],
+    entries: &[u32],
+    children: &[u32],
+) -> bool
     requires { Renewable words.now entries.now children.now }
 {
-    let fd = os::create(path);
-    if fd < 0 {
-        file_error(b"make", path);
-        return false;
+    let mut file = match OpenOptions::new()
+        .write(true)
+        .create_new(true)
+        .open(rt, path)
+    {
+        Ok(file) => file,
+        Err(error) => {
+            file_error(rt, "make", path, error);
+            return false;
+        }
+    };
+    match write_table(&mut file, words, labels, entries, children) {
+        Ok(()) => true,
+        Err(error) => {
+            file_error(rt, "write", path, error);
+            let _ = remove_file(rt, path);
+            false
+        }
     }
-    let written = write_table(fd, words, labels, entries, children);
-    if !written {
-        file_error(b"write", path);
-        os::unlink(path);
+}
+
+// The table is stored, and a line says so.
+fn store_and_say(
+    rt: &(impl Files + Print + Eprint),
+    path: &str,
+    words: &[u32],
+    labels: &[u8],
+    entries: &[u32],
+    children: &[u32],
+)
+    requires { Renewable words.now entries.now children.now }
+{
+    if !store(rt, path, words, labels, entries, children) {
+        return;
     }
-    libc::close(fd);
-    written
+    print(rt, b"done: ");
+    print_number(rt, entry_count(entries), b' ');
+    print(rt, b"entries written to ");
+    print(rt, path.as_bytes());
+    print(rt, b"\n");
 }
 
 // The third argument names the new file.
-fn store_as_asked(words: &[u32], labels: &[u8], entries: &[u32], children: &[u32])
+fn store_as_asked(
+    rt: &(impl Env + Files + Print + Eprint),
+    words: &[u32],
+    labels: &[u8],
+    entries: &[u32],
+    children: &[u32],
+)
     requires { Renewable words.now entries.now children.now }
 {
-    let mut path = io::buffer();
-    let length = os::arg(3, &mut path);
-    if os::errno() != 0 {
-        file_error(b"take the name of", b"NEWFILE");
-        return;
+    let mut name = [0u8; NAME_BYTES];
+    match name_argument(rt, 3, &mut name) {
+        Ok(path) => store_and_say(rt, path, words, labels, entries, children),
+        Err(error) => file_error(rt, "take the name of", "NEWFILE", error),
     }
-    if !store(&path[..length], words, labels, entries, children) {
-        return;
-    }
-    print(b"done: ");
-    print_number(entry_count(entries), b' ');
-    print(b"entries written to ");
-    print(&path[..length]);
-    print(b"\n");
 }
 
 fn renew(
+    rt: &(impl Env + Files + Print + Eprint),
     words: &[u32],
     labels: &[u8],
     work: &mut [u32],
@@ -86,7 +122,7 @@ fn renew(
 {
     let number = check(words, labels);
     if number != 0 {
-        refused(number);
+        refused(rt, number);
         return;
     }
     let list = packed(words, labels, work, steps);
@@ -95,22 +131,23 @@ fn renew(
     let built = read.first;
     let kids = read.second;
     if list.number != 0 {
-        refused(list.number);
+        refused(rt, list.number);
         return;
     }
     if read.number != 0 {
-        refused(read.number);
+        refused(rt, read.number);
         return;
     }
-    store_as_asked(words, labels, &entries[..built], &children[..kids]);
+    store_as_asked(rt, words, labels, &entries[..built], &children[..kids]);
 }
 
-pub fn run(words: &[u32], labels: &[u8]) {
+pub fn run(rt: &(impl Env + Files + Print + Eprint), words: &[u32], labels: &[u8]) {
     let mut work = [0u32; WORK_WORDS];
     let mut steps = [0u32; LIST_WORDS];
     let mut entries = [0u32; ENTRY_WORDS];
     let mut children = [0u32; CHILD_WORDS];
     renew(
+        rt,
         words,
         labels,
         &mut work,

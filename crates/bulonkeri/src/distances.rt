@@ -14,19 +14,19 @@ fn measure(words: &[u32], labels: &[u8], out: &mut [u16]) -> Written
     counts::distances::distances(words, labels, out)
 }
 
-fn show(words: &[u32], labels: &[u8], out: &mut [u16]) {
+fn show(rt: &(impl Print + Eprint), words: &[u32], labels: &[u8], out: &mut [u16]) {
     let answer = measure(words, labels, out);
     let length = answer.length;
     let number = answer.number;
     if number != 0 {
-        refused(number);
+        refused(rt, number);
         return;
     }
-    print(b"done: distance of each entry\n");
-    print_short_rows(&out[..length], 1);
+    print(rt, b"done: distance of each entry\n");
+    print_short_rows(rt, &out[..length], 1);
 }
 
-pub fn run(words: &[u32], labels: &[u8]) {
+pub fn run(rt: &(impl Print + Eprint), words: &[u32], labels: &[u8]) {
     let mut out = [0u16; MOST_ENTRIES];
-    show(words, labels, &mut out);
+    show(rt, words, labels, &mut out);
 }

@@ -9,14 +9,15 @@ use crate::limits::{LETTER_BYTES, MOST_STATEMENTS, WORK_SUMS, WORK_WORDS};
 use crate::printing::print;
 use crate::refusals::refused;
 use layout::Layout;
+use std::env::Env;
 use table::sections::statement_section;
 use table::statements::{label_length, label_start};
 use table::{StatementNo, WrittenTwo};
 
 // The layout, if any, is the arguments from the third on; `number` is the command's.
-pub fn read_command(number: usize) -> Asked {
-    let LayoutAsked::Is(layout) = layout_from(3) else {
-        return wrong(number);
+pub fn read_command(rt: &(impl Env + Print + Eprint), number: usize) -> Asked {
+    let LayoutAsked::Is(layout) = layout_from(rt, 3) else {
+        return wrong(rt, number);
     };
     Asked::For(Command::Letters(layout))
 }
@@ -39,33 +40,36 @@ fn label_letters(
 }
 
 // The label of a statement, and a newline.
-fn print_label(statements: &[u32], labels: &[u8], k: StatementNo) -> bool
+fn print_label(
+    rt: &(impl Print + Eprint),
+    statements: &[u32],
+    labels: &[u8],
+    k: StatementNo,
+) -> bool
     requires { LabelIn statements.now labels.now k.0 }
 {
     let start = label_start(statements, k);
     let end = start + label_length(statements, k);
-    if !print(&labels[start..end]) {
+    if !print(rt, &labels[start..end]) {
         return false;
     }
-    print(b"\n")
+    print(rt, b"\n")
 }
 
 // The labels of the list, a line each. Stops where standard output takes no more.
-fn print_labels(words: &[u32], labels: &[u8], list: &[u32])
+fn print_labels(rt: &(impl Print + Eprint), words: &[u32], labels: &[u8], list: &[u32])
     requires { Listed words.now labels.now list.now }
 {
     let statements = statement_section(words);
-    let mut i: usize = 0;
-    while i < list.len() {
-        let taken = print_label(statements, labels, StatementNo(list[i]));
-        if !taken {
+    for k in list {
+        if !print_label(rt, statements, labels, StatementNo(*k)) {
             return;
         }
-        i += 1;
     }
 }
 
 fn show(
+    rt: &(impl Print + Eprint),
     words: &[u32],
     labels: &[u8],
     layout: Layout,
@@ -79,21 +83,22 @@ fn show(
     let listed = answer.first;
     let length = answer.second;
     if number != 0 {
-        refused(number);
+        refused(rt, number);
         return;
     }
-    print(b"done: labels, a line each, then the letters\n");
-    print_labels(words, labels, &list[..listed]);
-    print(&letters[..length]);
-    print(b"\n");
+    print(rt, b"done: labels, a line each, then the letters\n");
+    print_labels(rt, words, labels, &list[..listed]);
+    print(rt, &letters[..length]);
+    print(rt, b"\n");
 }
 
-pub fn run(words: &[u32], labels: &[u8], layout: Layout) {
+pub fn run(rt: &(impl Print + Eprint), words: &[u32], labels: &[u8], layout: Layout) {
     let mut work = [0u32; WORK_WORDS];
     let mut sums = [0u16; WORK_SUMS];
     let mut list = [0u32; MOST_STATEMENTS];
     let mut letters = [0u8; LETTER_BYTES];
     show(
+        rt,
         words,
         labels,
         layout,

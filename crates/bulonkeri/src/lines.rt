@@ -4,11 +4,11 @@ use answers_said::lines::{line_end, line_start};
 use check::same;
 
 // Line k, and a newline.
-pub fn print_line(text: &[u8], k: usize) {
+pub fn print_line(rt: &(impl Print + Eprint), text: &[u8], k: usize) {
     let start = line_start(text, k);
     let end = line_end(text, start);
-    print(&text[start..end]);
-    print(b"\n");
+    print(rt, &text[start..end]);
+    print(rt, b"\n");
 }
 
 // The number of the first line that is this name, or how many lines there are.

@@ -1,6 +1,8 @@
 // The program `bulonkeri COMMAND FILE ..`: reads a table file and prints what an operation of the library answers.
-// A program has no exit status, so the first word of its output says which it was: done, differ, refused, too (large), error, or usage.
+// Its exit status is 0 always, and the first word of its output says which it was: done, differ, refused, too (large), error, or usage.
 #![tactic(auto)]
+
+mod arguments; // arguments.rt: the program's arguments
 mod asked; // asked.rt: which command is asked for
 mod checking; // checking.rt: the command check
 mod clean; // clean.rt: the command clean
@@ -24,40 +26,52 @@ mod writing; // writing.rt: a table file written
 
 use asked::{Asked, Command};
 use limits::{LABEL_BYTES, TABLE_WORDS};
+use std::env::Env;
+use std::fs::Files;
 
-fn answer(command: Command, words: &[u32], labels: &[u8]) {
+fn answer(
+    rt: &(impl Env + Files + Print + Eprint),
+    command: Command,
+    words: &[u32],
+    labels: &[u8],
+) {
     match command {
-        Command::Check => checking::run(words, labels),
-        Command::Parents => parents::run(words, labels),
-        Command::Distances => distances::run(words, labels),
-        Command::List(kind) => list::run(words, labels, kind),
-        Command::Letters(layout) => letters::run(words, labels, layout),
-        Command::Text(form) => texting::run(words, labels, form),
-        Command::Verify(layout) => verifying::run(words, labels, layout),
-        Command::Clean => clean::run(words, labels),
+        Command::Check => checking::run(rt, words, labels),
+        Command::Parents => parents::run(rt, words, labels),
+        Command::Distances => distances::run(rt, words, labels),
+        Command::List(kind) => list::run(rt, words, labels, kind),
+        Command::Letters(layout) => letters::run(rt, words, labels, layout),
+        Command::Text(form) => texting::run(rt, words, labels, form),
+        Command::Verify(layout) => verifying::run(rt, words, labels, layout),
+        Command::Clean => clean::run(rt, words, labels),
     }
 }
 
-fn load_and_answer(command: Command, words: &mut [u32], labels: &mut [u8]) {
-    let loaded = reading::load(words, labels);
+fn load_and_answer(
+    rt: &(impl Env + Files + Print + Eprint),
+    command: Command,
+    words: &mut [u32],
+    labels: &mut [u8],
+) {
+    let loaded = reading::load(rt, words, labels);
     if !loaded.done {
         return;
     }
     let count = loaded.words;
     let size = loaded.labels;
-    answer(command, &words[..count], &labels[..size]);
+    answer(rt, command, &words[..count], &labels[..size]);
 }
 
 // There is no heap: a table stands in two arrays.
-fn run(command: Command) {
+fn run(rt: &(impl Env + Files + Print + Eprint), command: Command) {
     let mut words = [0u32; TABLE_WORDS];
     let mut labels = [0u8; LABEL_BYTES];
-    load_and_answer(command, &mut words, &mut labels);
+    load_and_answer(rt, command, &mut words, &mut labels);
 }
 
-fn main() {
-    let Asked::For(command) = asked::read_command() else {
+fn main(rt: HostRuntime) {
+    let Asked::For(command) = asked::read_command(&rt) else {
         return;
     };
-    run(command);
+    run(&rt, command);
 }

@@ -21,10 +21,10 @@ fn number_text(number: u32, after: u8, text: &mut [u8; TEXT_BYTES]) -> usize
     put_byte(after, end, text)
 }
 
-pub fn print_number(number: u32, after: u8) -> bool {
+pub fn print_number(rt: &(impl Print + Eprint), number: u32, after: u8) -> bool {
     let mut text = [0u8; TEXT_BYTES];
     let end = number_text(number, after, &mut text);
-    print(&text[..end])
+    print(rt, &text[..end])
 }
 
 #[derive(Drop)]

@@ -14,19 +14,19 @@ fn count(words: &[u32], labels: &[u8], out: &mut [u32]) -> Written
     counts::parents::parents(words, labels, out)
 }
 
-fn show(words: &[u32], labels: &[u8], out: &mut [u32]) {
+fn show(rt: &(impl Print + Eprint), words: &[u32], labels: &[u8], out: &mut [u32]) {
     let answer = count(words, labels, out);
     let length = answer.length;
     let number = answer.number;
     if number != 0 {
-        refused(number);
+        refused(rt, number);
         return;
     }
-    print(b"done: parents of each entry\n");
-    print_rows(&out[..length], 1);
+    print(rt, b"done: parents of each entry\n");
+    print_rows(rt, &out[..length], 1);
 }
 
-pub fn run(words: &[u32], labels: &[u8]) {
+pub fn run(rt: &(impl Print + Eprint), words: &[u32], labels: &[u8]) {
     let mut out = [0u32; MOST_ENTRIES];
-    show(words, labels, &mut out);
+    show(rt, words, labels, &mut out);
 }

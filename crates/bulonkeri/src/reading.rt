@@ -3,20 +3,26 @@
 ghost use Rattle.std.specs.Prelude.{◌≡◌, ◌≤◌, length};
 ghost use Rattle.io.specs.Counts.{IsPrefixLen};
 
+use crate::arguments::{NAME_BYTES, name_argument};
 use crate::errors::{file_error, too_large};
 use crate::limits::{LABEL_BYTES, TABLE_WORDS};
 use crate::printing::print;
+use std::env::Env;
+use std::fs::{File, Files};
+use std::io::{Error, Read};
 use table::numbers::wide;
 use table_file::{decode, word};
 
-// The words of a chunk of 4,096 bytes.
+const CHUNK_BYTES: usize = 4096;
+
+// The words of a chunk.
 const CHUNK_WORDS: usize = 1024;
 
-// How many elements were read, and whether reading failed before the end.
+// How many elements were read, and the error, if any, that ended the reading.
 #[derive(Drop)]
 struct Got {
     count: usize,
-    failed: bool,
+    error: Option<Error>,
 }
 
 #[derive(Drop)]
@@ -32,82 +38,82 @@ pub struct Loaded {
     pub labels: usize,
 }
 
-// Reads until the slice is full or the file ends. Unlike io::read_full it says which of the two a short count means.
-fn read_bytes(fd: i32, bytes: &mut [u8]) -> Got
+// Reads until the slice is full or the file ends. Unlike std's read_exact it says how many bytes there were.
+fn read_bytes(file: &mut impl Read, bytes: &mut [u8]) -> Got
     ensures { IsPrefixLen result.count bytes.new }
 {
     let mut done: usize = 0;
     while done < bytes.len() {
-        let got = libc::read(fd, &mut bytes[done..]);
-        if got < 0 {
-            return Got {
-                count: done,
-                failed: true,
-            };
+        match file.read(&mut bytes[done..]) {
+            Ok(0) => break,
+            Ok(more) => done += more,
+            Err(error) => {
+                return Got {
+                    count: done,
+                    error: Some(error),
+                };
+            }
         }
-        let more = io::count(got, &bytes[done..]);
-        if more == 0 {
-            return Got {
-                count: done,
-                failed: false,
-            };
-        }
-        done += more;
     }
     Got {
         count: done,
-        failed: false,
+        error: None,
     }
 }
 
-fn read_chunk(fd: i32, chunk: &mut [u8], words: &mut [u32]) -> Got
+fn read_chunk(file: &mut impl Read, chunk: &mut [u8], words: &mut [u32]) -> Got
     ensures { result.count ≤ length words.new }
 {
-    let got = read_bytes(fd, chunk);
+    let got = read_bytes(file, chunk);
     let size = got.count;
     let count = decode(&chunk[..size], words);
     Got {
         count,
-        failed: got.failed,
+        error: got.error,
     }
 }
 
 // Reads as many words as the chunk and the slice hold.
-fn read_into(fd: i32, chunk: &mut [u8], words: &mut [u32]) -> Got
+fn read_into(file: &mut impl Read, chunk: &mut [u8], words: &mut [u32]) -> Got
     requires { 4096 ≤ length chunk.old }
     ensures { result.count ≤ length words.new }
 {
     if words.len() < CHUNK_WORDS {
         let size = 4 * words.len();
-        return read_chunk(fd, &mut chunk[..size], words);
+        return read_chunk(file, &mut chunk[..size], words);
     }
-    read_chunk(fd, chunk, words)
+    read_chunk(file, chunk, words)
 }
 
-fn read_some(fd: i32, words: &mut [u32]) -> Got
+fn read_some(file: &mut impl Read, words: &mut [u32]) -> Got
     ensures { result.count ≤ length words.new }
 {
-    let mut chunk = io::buffer();
-    read_into(fd, &mut chunk, words)
+    let mut chunk = [0u8; CHUNK_BYTES];
+    read_into(file, &mut chunk, words)
 }
 
-fn ends_early(path: &[u8]) {
-    print(b"error: ");
-    print(path);
-    print(b" ends before the words that it counts\n");
+fn ends_early(rt: &(impl Print + Eprint), path: &str) {
+    print(rt, b"error: ");
+    print(rt, path.as_bytes());
+    print(rt, b" ends before the words that it counts\n");
 }
 
 // Fills the slice, and answers whether the file had so many words.
-fn read_words(fd: i32, path: &[u8], words: &mut [u32]) -> bool {
+fn read_words(
+    rt: &(impl Print + Eprint),
+    file: &mut impl Read,
+    path: &str,
+    words: &mut [u32],
+) -> bool {
     let mut done: usize = 0;
     while done < words.len() {
-        let got = read_some(fd, &mut words[done..]);
-        if got.failed {
-            file_error(b"read", path);
+        let got = read_some(file, &mut words[done..]);
+        if let Some(error) = got.error {
+            file_error(rt, "read", path, error);
             return false;
         }
         if got.count == 0 {
-            ends_early(path);
+            ends_early(rt, path);
             return false;
         }
         done += got.count;
@@ -116,24 +122,24 @@ fn read_words(fd: i32, path: &[u8], words: &mut [u32]) -> bool {
 }
 
 // The first word of the file.
-fn read_count(fd: i32, path: &[u8]) -> Count {
+fn read_count(rt: &(impl Print + Eprint), file: &mut impl Read, path: &str) -> Count {
     let mut four = [0u8; 4];
-    let got = read_bytes(fd, &mut four);
-    if got.failed {
-        file_error(b"read", path);
+    let got = read_bytes(file, &mut four);
+    if let Some(error) = got.error {
+        file_error(rt, "read", path, error);
         return Count::None;
     }
     if got.count < 4 {
-        ends_early(path);
+        ends_early(rt, path);
         return Count::None;
     }
     Count::Is(wide(word(&four, 0)))
 }
 
 // One byte more: none where the file ends here.
-fn read_past(fd: i32) -> Got {
+fn read_past(file: &mut impl Read) -> Got {
     let mut one = [0u8; 1];
-    read_bytes(fd, &mut one)
+    read_bytes(file, &mut one)
 }
 
 fn nothing() -> Loaded
@@ -146,59 +152,96 @@ fn nothing() -> Loaded
     }
 }
 
+// Whether the file ended after the label bytes; where it did not, a line says why.
+fn ended(rt: &(impl Print + Eprint), path: &str, error: Option<Error>, past: usize) -> bool {
+    if let Some(error) = error {
+        file_error(rt, "read", path, error);
+        return false;
+    }
+    if 0 < past {
+        too_large(rt, b"more label bytes than", LABEL_BYTES as u32);
+        return false;
+    }
+    true
+}
+
 // The label bytes, to the end of the file.
-fn read_labels(fd: i32, path: &[u8], labels: &mut [u8], words: usize) -> Loaded
+fn read_labels(
+    rt: &(impl Print + Eprint),
+    file: &mut impl Read,
+    path: &str,
+    labels: &mut [u8],
+    words: usize,
+) -> Loaded
     ensures prefix_len { IsPrefixLen result.labels labels.new }
     ensures words_value { result.words ≡ words }
 {
-    let got = read_bytes(fd, labels);
-    let past = read_past(fd);
-    if got.failed || past.failed {
-        file_error(b"read", path);
-    } else if 0 < past.count {
-        too_large(b"more label bytes than", LABEL_BYTES as u32);
-    }
+    let got = read_bytes(file, labels);
+    let past = read_past(file);
+    let done = ended(rt, path, past.error.or(got.error), past.count);
     Loaded {
-        done: !got.failed && !past.failed && past.count == 0,
+        done,
         words,
         labels: got.count,
     }
 }
 
-fn read_table(fd: i32, path: &[u8], words: &mut [u32], labels: &mut [u8]) -> Loaded
+fn read_table(
+    rt: &(impl Print + Eprint),
+    file: &mut impl Read,
+    path: &str,
+    words: &mut [u32],
+    labels: &mut [u8],
+) -> Loaded
     ensures prefix_len { IsPrefixLen result.words words.new }
     ensures prefix_len_2 { IsPrefixLen result.labels labels.new }
 {
-    let Count::Is(count) = read_count(fd, path) else {
+    let Count::Is(count) = read_count(rt, file, path) else {
         return nothing();
     };
     if words.len() < count {
-        too_large(b"more words than", TABLE_WORDS as u32);
+        too_large(rt, b"more words than", TABLE_WORDS as u32);
         return nothing();
     }
-    if !read_words(fd, path, &mut words[..count]) {
+    if !read_words(rt, file, path, &mut words[..count]) {
         return nothing();
     }
-    read_labels(fd, path, labels, count)
+    read_labels(rt, file, path, labels, count)
 }
 
-// The table file that the second argument names.
-pub fn load(words: &mut [u32], labels: &mut [u8]) -> Loaded
+fn load_from(
+    rt: &(impl Files + Print + Eprint),
+    path: &str,
+    words: &mut [u32],
+    labels: &mut [u8],
+) -> Loaded
     ensures prefix_len { IsPrefixLen result.words words.new }
     ensures prefix_len_2 { IsPrefixLen result.labels labels.new }
 {
-    let mut path = io::buffer();
-    let length = os::arg(2, &mut path);
-    if os::errno() != 0 {
-        file_error(b"take the name of", b"FILE");
-        return nothing();
+    match File::open(rt, path) {
+        Ok(mut file) => read_table(rt, &mut file, path, words, labels),
+        Err(error) => {
+            file_error(rt, "open", path, error);
+            nothing()
+        }
     }
-    let fd = os::open_read(&path[..length]);
-    if fd < 0 {
-        file_error(b"open", &path[..length]);
-        return nothing();
+}
+
+// The table file that the second argument names.
+pub fn load(
+    rt: &(impl Env + Files + Print + Eprint),
+    words: &mut [u32],
+    labels: &mut [u8],
+) -> Loaded
+    ensures prefix_len { IsPrefixLen result.words words.new }
+    ensures prefix_len_2 { IsPrefixLen result.labels labels.new }
+{
+    let mut name = [0u8; NAME_BYTES];
+    match name_argument(rt, 2, &mut name) {
+        Ok(path) => load_from(rt, path, words, labels),
+        Err(error) => {
+            file_error(rt, "take the name of", "FILE", error);
+            nothing()
+        }
     }
-    let loaded = read_table(fd, &path[..length], words, labels);
-    libc::close(fd);
-    loaded
 }

@@ -3,8 +3,8 @@ use crate::printing::print;
 use answers_said::lines::LINE_BYTES;
 use answers_said::refusals::refusal_said;
 
-pub fn refused(number: u32) {
+pub fn refused(rt: &(impl Print + Eprint), number: u32) {
     let mut line = [0u8; LINE_BYTES];
     let length = refusal_said(number, &mut line);
-    print(&line[..length]);
+    print(rt, &line[..length]);
 }

@@ -10,34 +10,27 @@ fn after(i: usize, row: usize) -> u8
 }
 
 // Stops where standard output takes no more.
-pub fn print_rows(numbers: &[u32], row: usize)
+pub fn print_rows(rt: &(impl Print + Eprint), numbers: &[u32], row: usize)
     requires { 0 < row }
 {
-    let mut i: usize = 0;
-    while i < numbers.len() {
-        let taken = print_number(numbers[i], after(i, row));
-        if !taken {
+    for (i, number) in numbers.iter().enumerate() {
+        if !print_number(rt, *number, after(i, row)) {
             return;
         }
-        i += 1;
     }
 }
 
-// As a call, a cast of a slice's element is known to fit.
 fn wide(number: u16) -> u32 {
     number as u32
 }
 
 // The same of distances.
-pub fn print_short_rows(numbers: &[u16], row: usize)
+pub fn print_short_rows(rt: &(impl Print + Eprint), numbers: &[u16], row: usize)
     requires { 0 < row }
 {
-    let mut i: usize = 0;
-    while i < numbers.len() {
-        let taken = print_number(wide(numbers[i]), after(i, row));
-        if !taken {
+    for (i, number) in numbers.iter().enumerate() {
+        if !print_number(rt, wide(*number), after(i, row)) {
             return;
         }
-        i += 1;
     }
 }

@@ -3,6 +3,7 @@ ghost use Rattle.layout.specs.Layouts.{layout_of};
 ghost use Rattle.answers_said.specs.Lines.{Said};
 ghost use Rattle.answers_said.specs.Texts.{text_room, text_said};
 
+use crate::arguments::argument_count;
 use crate::asked::{Asked, Command, wrong};
 use crate::layouts::{LayoutAsked, layout_from};
 use crate::limits::{TEXT_ANSWER_BYTES, WORK_SUMS, WORK_WORDS};
@@ -11,6 +12,7 @@ use crate::numbers::{Number, number_in};
 use crate::printing::print;
 use answers_said::texts::text_said;
 use layout::Layout;
+use std::env::Env;
 
 #[derive(Drop)]
 pub struct TextForm {
@@ -38,25 +40,24 @@ fn style_in(name: &[u8]) -> Number {
 }
 
 // The third argument.
-fn style_argument() -> Number {
+fn style_argument(rt: &impl Env) -> Number {
     let mut name = [0u8; 16];
-    let length = os::arg(3, &mut name);
-    if os::errno() != 0 {
+    let Ok(length) = rt.arg(3, &mut name) else {
         return Number::None;
-    }
+    };
     style_in(&name[..length])
 }
 
 // The style, if any, is the third argument, and the layout, if any, the arguments after it; `number` is the command's.
-pub fn read_command(number: usize) -> Asked {
-    if os::arg_count() == 3 {
+pub fn read_command(rt: &(impl Env + Print + Eprint), number: usize) -> Asked {
+    if argument_count(rt) == 3 {
         return asked_for(0, Layout::standard());
     }
-    let Number::Is(style) = style_argument() else {
-        return wrong(number);
+    let Number::Is(style) = style_argument(rt) else {
+        return wrong(rt, number);
     };
-    let LayoutAsked::Is(layout) = layout_from(4) else {
-        return wrong(number);
+    let LayoutAsked::Is(layout) = layout_from(rt, 4) else {
+        return wrong(rt, number);
     };
     asked_for(style, layout)
 }
@@ -76,10 +77,22 @@ fn answer(
     text_said(words, labels, form.style, form.layout, work, sums, out)
 }
 
-pub fn run(words: &[u32], labels: &[u8], form: TextForm) {
+fn show(
+    rt: &(impl Print + Eprint),
+    words: &[u32],
+    labels: &[u8],
+    form: TextForm,
+    work: &mut [u32],
+    sums: &mut [u16],
+    out: &mut [u8; TEXT_ANSWER_BYTES],
+) {
+    let length = answer(words, labels, form, work, sums, out);
+    print(rt, &out[..length]);
+}
+
+pub fn run(rt: &(impl Print + Eprint), words: &[u32], labels: &[u8], form: TextForm) {
     let mut work = [0u32; WORK_WORDS];
     let mut sums = [0u16; WORK_SUMS];
     let mut out = [0u8; TEXT_ANSWER_BYTES];
-    let length = answer(words, labels, form, &mut work, &mut sums, &mut out);
-    print(&out[..length]);
+    show(rt, words, labels, form, &mut work, &mut sums, &mut out);
 }

@@ -2,8 +2,9 @@
 use crate::lines::print_line;
 use crate::printing::print;
 
-pub fn usage() {
+pub fn usage(rt: &(impl Print + Eprint)) {
     print(
+        rt,
         b"usage: bulonkeri COMMAND FILE ..
 
   check FILE                           is it a good table?
@@ -31,9 +32,10 @@ up to 196608.
 }
 
 // The forms of the commands, in the order of their numbers; then what stands for all of them.
-pub fn arguments_error(command: usize) {
-    print(b"error: expected ");
+pub fn arguments_error(rt: &(impl Print + Eprint), command: usize) {
+    print(rt, b"error: expected ");
     print_line(
+        rt,
         b"check FILE
 parents FILE
 distances FILE

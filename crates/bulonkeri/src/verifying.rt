@@ -14,11 +14,12 @@ use crate::printing::print;
 use answers_said::lines::LINE_BYTES;
 use answers_said::verdicts::verdict_said;
 use layout::Layout;
+use std::env::Env;
 
 // The layout, if any, is the arguments from the third on; `number` is the command's.
-pub fn read_command(number: usize) -> Asked {
-    let LayoutAsked::Is(layout) = layout_from(3) else {
-        return wrong(number);
+pub fn read_command(rt: &(impl Env + Print + Eprint), number: usize) -> Asked {
+    let LayoutAsked::Is(layout) = layout_from(rt, 3) else {
+        return wrong(rt, number);
     };
     Asked::For(Command::Verify(layout))
 }
@@ -51,7 +52,31 @@ fn answer(
     verdict_said(verdict, line)
 }
 
-pub fn run(words: &[u32], labels: &[u8], layout: Layout) {
+fn show(
+    rt: &(impl Print + Eprint),
+    words: &[u32],
+    labels: &[u8],
+    layout: Layout,
+    work: &mut [u32],
+    sums: &mut [u16],
+    packed: &mut [u32],
+    steps: &mut [u32],
+    list: &mut [u32],
+    letters: &mut [u8],
+    built: &mut [u32],
+    kids: &mut [u32],
+    entries: &mut [u32],
+    children: &mut [u32],
+) {
+    let mut line = [0u8; LINE_BYTES];
+    let length = answer(
+        words, labels, layout, work, sums, packed, steps, list, letters, built, kids, entries,
+        children, &mut line,
+    );
+    print(rt, &line[..length]);
+}
+
+pub fn run(rt: &(impl Print + Eprint), words: &[u32], labels: &[u8], layout: Layout) {
     let mut work = [0u32; WORK_WORDS];
     let mut sums = [0u16; VERIFY_SUMS];
     let mut packed = [0u32; VERIFY_PACKED];
@@ -62,8 +87,8 @@ pub fn run(words: &[u32], labels: &[u8], layout: Layout) {
     let mut kids = [0u32; VERIFY_CHILDREN];
     let mut entries = [0u32; ENTRY_WORDS];
     let mut children = [0u32; VERIFY_CHILDREN];
-    let mut line = [0u8; LINE_BYTES];
-    let length = answer(
+    show(
+        rt,
         words,
         labels,
         layout,
@@ -77,7 +102,5 @@ pub fn run(words: &[u32], labels: &[u8], layout: Layout) {
         &mut kids,
         &mut entries,
         &mut children,
-        &mut line,
     );
-    print(&line[..length]);
 }

@@ -4,6 +4,8 @@ ghost use Rattle.io.specs.Counts.{IsPrefixLen};
 ghost use Rattle.new_table.specs.NewTables.{Renewable};
 
 use new_table::{new_header, whole_length};
+use std::io;
+use std::io::Write;
 use table::limits::HEADER_WORDS;
 use table::numbers::wide;
 use table_file::{bytes_of, encode};
@@ -20,53 +22,44 @@ fn encoded(words: &[u32], bytes: &mut [u8; CHUNK_BYTES]) -> usize
     encode(words, bytes)
 }
 
-fn write_chunk(fd: i32, words: &[u32]) -> bool
+fn write_chunk(file: &mut impl Write, words: &[u32]) -> io::Result<()>
     requires { length words.now ≤ 1024 }
 {
     let mut bytes = [0u8; CHUNK_BYTES];
     let size = encoded(words, &mut bytes);
-    io::write_all(fd, &bytes[..size])
+    file.write_all(&bytes[..size])
 }
 
-// Writes the words, and answers whether the file took them all.
-fn write_words(fd: i32, words: &[u32]) -> bool {
-    let mut done: usize = 0;
-    while words.len() - done > CHUNK_WORDS {
-        let end = done + CHUNK_WORDS;
-        if !write_chunk(fd, &words[done..end]) {
-            return false;
-        }
-        done = end;
+// Writes the words, all of them unless there is an error.
+fn write_words(file: &mut impl Write, words: &[u32]) -> io::Result<()> {
+    for chunk in words.chunks(CHUNK_WORDS) {
+        write_chunk(file, chunk)?;
     }
-    write_chunk(fd, &words[done..])
+    Ok(())
 }
 
 // The count of words, with which a table file begins.
-fn write_count(fd: i32, count: u32) -> bool {
+fn write_count(file: &mut impl Write, count: u32) -> io::Result<()> {
     let four = bytes_of(count);
-    io::write_all(fd, &four)
+    file.write_all(&four)
 }
 
-// The table file of the statements and hypotheses of `words` with new entries and children: answers whether the file took it all.
-pub fn write_table(fd: i32, words: &[u32], labels: &[u8], entries: &[u32], children: &[u32]) -> bool
+// The table file of the statements and hypotheses of `words` with new entries and children, all of it unless there is an error.
+pub fn write_table(
+    file: &mut impl Write,
+    words: &[u32],
+    labels: &[u8],
+    entries: &[u32],
+    children: &[u32],
+) -> io::Result<()>
     requires { Renewable words.now entries.now children.now }
 {
     let from = wide(words[6]);
     let header = new_header(words, entries, children);
-    if !write_count(fd, whole_length(words, entries, children)) {
-        return false;
-    }
-    if !write_words(fd, &header) {
-        return false;
-    }
-    if !write_words(fd, &words[HEADER_WORDS..from]) {
-        return false;
-    }
-    if !write_words(fd, entries) {
-        return false;
-    }
-    if !write_words(fd, children) {
-        return false;
-    }
-    io::write_all(fd, labels)
+    write_count(file, whole_length(words, entries, children))?;
+    write_words(file, &header)?;
+    write_words(file, &words[HEADER_WORDS..from])?;
+    write_words(file, entries)?;
+    write_words(file, children)?;
+    file.write_all(labels)
 }

@@ -1,6 +1,7 @@
 // The library for C and Rust. A slice is a pointer and a length; each function has the contract of the operation that it calls.
 // The header is include/bulonkeri.h.
 #![tactic(auto)]
+
 ghost use Rattle.std.specs.Prelude.{true, false, [], ◌∷◌, ◌≡◌};
 ghost use Rattle.defs.specs.Check.{table_refusal};
 ghost use Rattle.defs.specs.Outcome.{answer_one, answer_two, parents_outcome, distances_outcome, step_list_outcome, letters_outcome, text_outcome};

@@ -1,0 +1,7 @@
+-- What was written stands inside the output, as a law of the outcome says.
+use Rattle.defs.specs.Inside.{list_inside}
+use Rattle.bulonkeri.proofs.Fits.{one_counts}
+use Rattle.bulonkeri.proofs.clean.packed.Goals as goal
+
+pub returns : goal.returns
+returns c = one_counts c.packed_list.ensures (list_inside _ _ _ _ _ _)

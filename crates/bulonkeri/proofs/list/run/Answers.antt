@@ -1,0 +1,9 @@
+-- The lengths of the arrays are given by a law.
+use Rattle.bulonkeri.proofs.Arrays.{long}
+use Rattle.bulonkeri.proofs.list.run.Goals as goal
+
+pub slice_bounds-show-end : goal.slice_bounds-show-end
+slice_bounds-show-end g c = long 622592
+
+pub slice_bounds-show-end-2 : goal.slice_bounds-show-end-2
+slice_bounds-show-end-2 g c = long 327680
