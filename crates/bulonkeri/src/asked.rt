@@ -4,7 +4,7 @@ use crate::lines::line_named;
 use crate::list::ListKind;
 use crate::texting::TextForm;
 use crate::usage::{arguments_error, usage};
-use crate::{letters, list, texting, verifying};
+use crate::{list, spelling, texting, verifying};
 use layout::Layout;
 use std::env::Env;
 
@@ -58,7 +58,7 @@ fn command_named(rt: &(impl Env + Print + Eprint), name: &[u8]) -> Asked {
         1 => with_arguments(rt, 3, Command::Parents, number),
         2 => with_arguments(rt, 3, Command::Distances, number),
         3 => list::read_command(rt, number),
-        4 => letters::read_command(rt, number),
+        4 => spelling::read_command(rt, number),
         5 => texting::read_command(rt, number),
         6 => verifying::read_command(rt, number),
         7 => with_arguments(rt, 4, Command::Clean, number),

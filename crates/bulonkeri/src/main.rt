@@ -9,7 +9,6 @@ mod clean; // clean.rt: the command clean
 mod distances; // distances.rt: the command distances
 mod errors; // errors.rt: lines that say why nothing was answered
 mod layouts; // layouts.rt: a layout as three arguments
-mod letters; // letters.rt: the command letters
 mod limits; // limits.rt: the sizes of the program's arrays
 mod lines; // lines.rt: lines of a text
 mod list; // list.rt: the command list
@@ -19,6 +18,7 @@ mod printing; // printing.rt: bytes printed
 mod reading; // reading.rt: a table file read
 mod refusals; // refusals.rt: document 01's reasons in words
 mod rows; // rows.rt: rows of numbers printed
+mod spelling; // spelling.rt: the command letters
 mod texting; // texting.rt: the command text
 mod usage; // usage.rt: how the program is called
 mod verifying; // verifying.rt: the command verify
@@ -40,7 +40,7 @@ fn answer(
         Command::Parents => parents::run(rt, words, labels),
         Command::Distances => distances::run(rt, words, labels),
         Command::List(kind) => list::run(rt, words, labels, kind),
-        Command::Letters(layout) => letters::run(rt, words, labels, layout),
+        Command::Letters(layout) => spelling::run(rt, words, labels, layout),
         Command::Text(form) => texting::run(rt, words, labels, form),
         Command::Verify(layout) => verifying::run(rt, words, labels, layout),
         Command::Clean => clean::run(rt, words, labels),

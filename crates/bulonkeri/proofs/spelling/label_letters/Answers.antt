@@ -2,7 +2,7 @@
 use Rattle.defs.specs.Inside.{letters_inside}
 use Rattle.bulonkeri.proofs.Fits.{two_count}
 use Rattle.bulonkeri.proofs.Lists.{letters_listed}
-use Rattle.bulonkeri.proofs.letters.label_letters.Goals as goal
+use Rattle.bulonkeri.proofs.spelling.label_letters.Goals as goal
 
 pub returns-clause-prefix_len : goal.returns-clause-prefix_len
 returns-clause-prefix_len c = (two_count c.label_letters.ensures (letters_inside _ _ _ _ _ _ _)).0

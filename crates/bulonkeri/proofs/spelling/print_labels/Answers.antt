@@ -2,7 +2,7 @@
 use Rattle.std.proofs.Common.{arith}
 use Rattle.table.specs.Headers.{header_ok}
 use Rattle.bulonkeri.proofs.Lists.{label_is_in}
-use Rattle.bulonkeri.proofs.letters.print_labels.Goals as goal
+use Rattle.bulonkeri.proofs.spelling.print_labels.Goals as goal
 
 pub statement_section-statements-requires : goal.statement_section-statements-requires
 statement_section-statements-requires g c = header_ok _ _ c.requires.ok
