@@ -1,4 +1,5 @@
 pub mod Left
+pub mod Refused
 pub mod Tests
 pub mod Endings
 pub mod Pins

@@ -2,17 +2,15 @@
 ghost use Rattle.std.specs.Prelude.{◌≡◌};
 ghost use Rattle.laws.specs.Tools.{zeroed};
 
-use slices::fill::{fill, fill_short};
-
 pub fn wipe(work: &mut [u32])
     ensures { work.new ≡ zeroed work.old }
 {
-    fill(work, 0);
+    work.fill(0);
 }
 
 pub fn wipe_both(work: &mut [u32], sums: &mut [u16])
     ensures { (work.new ≡ zeroed work.old) × (sums.new ≡ zeroed sums.old) }
 {
-    fill(work, 0);
-    fill_short(sums, 0);
+    work.fill(0);
+    sums.fill(0);
 }

@@ -1,6 +1,9 @@
-// Every answer is a number and the lengths written, in elements of each output slice; a refusal's lengths are 0.
+// An answer as C has it: a number, 0 for success, and the lengths written, in elements of each output slice; a refusal's lengths are 0.
 ghost use Rattle.std.specs.Prelude.{◌≡◌};
 ghost use Rattle.answers.specs.Left.{refusal, success, refusal_two, success_two};
+ghost use Rattle.answers.specs.Refused.{written_of, written_two_of};
+
+use crate::refusals::Refusal;
 
 #[derive(Clone, Copy)]
 pub struct Written {
@@ -12,6 +15,13 @@ pub struct Written {
 #[derive(Clone, Copy)]
 pub struct WrittenTwo {
     pub number: u32,
+    pub first: usize,
+    pub second: usize,
+}
+
+// What an operation with two outputs wrote of each.
+#[derive(Clone, Copy, Debug, PartialEq, Eq)]
+pub struct Lengths {
     pub first: usize,
     pub second: usize,
 }
@@ -45,5 +55,27 @@ pub fn done_both(first: usize, second: usize) -> WrittenTwo
         number: 0,
         first,
         second,
+    }
+}
+
+impl From<Result<usize, Refusal>> for Written {
+    ghost from_gives = { λ answer written. written ≡ written_of answer };
+
+    fn from(answer: Result<usize, Refusal>) -> Self {
+        match answer {
+            Ok(length) => done(length),
+            Err(refusal) => refused(refusal.number()),
+        }
+    }
+}
+
+impl From<Result<Lengths, Refusal>> for WrittenTwo {
+    ghost from_gives = { λ answer written. written ≡ written_two_of answer };
+
+    fn from(answer: Result<Lengths, Refusal>) -> Self {
+        match answer {
+            Ok(lengths) => done_both(lengths.first, lengths.second),
+            Err(refusal) => refused_both(refusal.number()),
+        }
     }
 }

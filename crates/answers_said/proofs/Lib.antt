@@ -1,3 +1,4 @@
 mod LineLaws
 mod SaidLaws
 mod TextLaws
+mod VerdictLaws

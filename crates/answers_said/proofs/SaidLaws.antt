@@ -1,29 +1,23 @@
 -- Lines put together piece by piece, and how long they can be: so they have room in the slices lent.
 -- A line that grew from the front of a slice that is long enough is what stands there.
-use mathlib.Core.Path.{◌≡◌, refl, ap, ◌∙◌}
-use mathlib.Core.Bool.{true, false, ◌||◌}
+use mathlib.Core.Path.{◌≡◌, ap, ◌∙◌}
 use mathlib.Core.List.{List, [], ◌∷◌, ◌++◌}
 use Prim.Native.Nat.{ℕ, zero, suc, ◌≤◌, ◌<◌}
 use native.Mathlib.Omega.{arith}
-use lib.Dec.{T, eqb, leb, leb→le}
+use lib.Dec.{T, leb, leb→le}
 use lib.ListN.{length, get_or, take, drop, length-append}
 use lib.Seq.{take_at}
-use borrow.Author.Tests.{ne_eqb}
 use Rattle.io.proofs.Counting.{prefix_len_of_le}
 use Rattle.laws.specs.Tools.{all}
-use Rattle.laws.specs.Lists.{boole}
 use mir.Facts.{and_yes}
 use Rattle.laws.specs.Puts.{Put, Grows, grows_one, grows_more, grows_then}
 use Rattle.defs.specs.Bytes.{newline, space}
 use Rattle.defs.specs.Names.{digits}
 use Rattle.names.proofs.Decimals.{digits_most}
-use Rattle.verify.specs.declared.verdict.Stage.{Stage}
-use Rattle.verify.specs.declared.verdict.Stage.TheVariants.{PackedList, PackedRead, NormalList, NormalRead, Letters, Decoded, LettersRead}
 use Rattle.answers_said.specs.Bytes.{bytes}
 use Rattle.answers_said.specs.Lines.{line_at, ended, joined, Said}
 use Rattle.answers_said.specs.Refusals.{reasons, reason_line, refusal_line}
 use Rattle.answers_said.specs.Limits.{too_large_line}
-use Rattle.answers_said.specs.Verdicts.{stage_line, room_line, refused_lines}
 use Rattle.answers_said.proofs.LineLaws.{whole, lines_joined}
 
 -- ---- what stands at the front
@@ -89,58 +83,3 @@ too_large_most what most few h =
       length-append (begun ++ (space ∷ [])) (digits most),
       length-append ((begun ++ (space ∷ [])) ++ digits most) (newline ∷ []),
     )
-
--- ---- a verdict
-
-stage_most : (stage : Stage) → length (stage_line stage) ≤ 61
-unfolding stage_line bytes
-stage_most PackedList = omega arith
-stage_most PackedRead = omega arith
-stage_most NormalList = omega arith
-stage_most NormalRead = omega arith
-stage_most Letters = omega arith
-stage_most Decoded = omega arith
-stage_most LettersRead = omega arith
-
-room_most : (stage : Stage) → length (room_line stage) ≤ 61
-unfolding room_line bytes
-room_most PackedList = omega arith
-room_most PackedRead = omega arith
-room_most NormalList = omega arith
-room_most NormalRead = omega arith
-room_most Letters = omega arith
-room_most Decoded = omega arith
-room_most LettersRead = omega arith
-
--- 14 or 15, or neither
-pub is_14 : (number : ℕ) → number ≡ 14 → (eqb number 14 || eqb number 15) ≡ true
-is_14 number e = rw e refl
-
-pub is_15 : (number : ℕ) → eqb number 15 ≡ true → (eqb number 14 || eqb number 15) ≡ true
-is_15 number e = boole (eqb number 14) (λ y. rw y refl) (λ y. rw (y, e) refl)
-
-pub is_neither : (number : ℕ) → (number ≡ 14 → ⊥) → eqb number 15 ≡ false → (eqb number 14 || eqb number 15) ≡ false
-is_neither number a b = rw (ne_eqb number 14 a, b) refl
-
-pub room_said : (stage : Stage) (number : ℕ) {begun r : ℕ} {o₀ o₁ o₂ : List ℕ} → (eqb number 14 || eqb number 15) ≡ true → Put (bytes "too large: ") 0 begun o₀ o₁
-    → Put (room_line stage) begun r o₁ o₂ → Grows (refused_lines stage number) 0 r o₀ o₂
-unfolding refused_lines
-room_said stage number e p₁ p₂ = rw e (grows_more (grows_one p₁) p₂)
-
-pub stage_said : (stage : Stage) (number : ℕ) {refused named r : ℕ} {o₀ o₁ o₂ o₃ : List ℕ} → (eqb number 14 || eqb number 15) ≡ false
-    → Grows (refusal_line number) 0 refused o₀ o₁ → Put (bytes "stage: ") refused named o₁ o₂ → Put (stage_line stage) named r o₂ o₃ → Grows (refused_lines stage number) 0 r o₀ o₃
-unfolding refused_lines
-stage_said stage number e g p₁ p₂ = rw e (grows_more (grows_more g p₁) p₂)
-
--- where each ends
-pub room_ends : (stage : Stage) {begun r : ℕ} {o₀ o₁ o₂ : List ℕ} → Put (bytes "too large: ") 0 begun o₀ o₁ → Put (room_line stage) begun r o₁ o₂ → r ≤ 200
-unfolding bytes
-room_ends stage p₁ p₂ = omega (arith, p₁.ends, p₂.ends, room_most stage)
-
-pub stage_ends : (stage : Stage) {before named r : ℕ} {o₁ o₂ o₃ : List ℕ} → before ≤ 111 → Put (bytes "stage: ") before named o₁ o₂ → Put (stage_line stage) named r o₂ o₃ → r ≤ 200
-unfolding bytes
-stage_ends stage h p₁ p₂ = omega (arith, p₁.ends, p₂.ends, stage_most stage)
-
-pub differ_ends : (stage : Stage) {begun r : ℕ} {o₀ o₁ o₂ : List ℕ} → Put (bytes "differ: ") 0 begun o₀ o₁ → Put (stage_line stage) begun r o₁ o₂ → r ≤ 200
-unfolding bytes
-differ_ends stage p₁ p₂ = omega (arith, p₁.ends, p₂.ends, stage_most stage)

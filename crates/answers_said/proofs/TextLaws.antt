@@ -1,6 +1,6 @@
 -- The answer of the command text at each return, from what the operation answered: too large, another refusal, or the text.
 -- The text stands in its part of the slice; then its first line is put before it and a newline behind it.
-use mathlib.Core.Path.{◌≡◌, sym, ap, ◌∙◌}
+use mathlib.Core.Path.{◌≡◌, refl, sym, ap, ◌∙◌}
 use mathlib.Core.Logic.{◌≢◌}
 use mathlib.Core.List.{List, [], ◌∷◌, ◌++◌, append_assoc}
 use Prim.Native.Nat.{ℕ, ◌+◌, ◌≤◌}
@@ -15,6 +15,10 @@ use Rattle.defs.specs.Layout.{Layout}
 use Rattle.defs.specs.Text.{text_of}
 use Rattle.defs.specs.Outcome.{Outcome, answer_one, one_output, text_number, text_outcome}
 use Rattle.defs.specs.OutcomeLaws.{one_done}
+use Rattle.answers.specs.Refused.{refusal_number}
+use Rattle.answers.specs.declared.refusals.Refusal.{Refusal}
+use Rattle.answers.specs.declared.refusals.Refusal.TheVariants.{Header, Statements, Labels, Hypotheses, Entries, Children, Goal, Style, Mixed, StrayEssential, LongLabel, ManySteps, ShortWork}
+use Rattle.answers.specs.declared.refusals.Refusal.TheVariants.{Layout as BadLayout, ShortOutput, BadList, BadLetters, BadStack}
 use Rattle.answers_said.specs.Bytes.{bytes}
 use Rattle.answers_said.specs.Lines.{Said}
 use Rattle.answers_said.specs.Refusals.{refusal_line}
@@ -69,3 +73,24 @@ module _ (w b : List ℕ) (style : ℕ) (l : Layout) (work sums room ys : List �
       let ends : r ≡ 15 + len + 1 = q.ends in
       let all = behind (head ++ text) (tail ++ rest) (newline ∷ []) (15 + len) r two (omega (arith, is.0, length-append head text)) (omega arith) q in
       rw (number_is, z) (record { inside = prefix_len_of_le r out₃ (omega (arith, (grows_one q).kept)); says = all ∙ append_assoc head text (newline ∷ []) })
+
+-- refusal 15 is that of the output
+pub is_15 : (r : Refusal) → refusal_number r ≡ 15 → r ≡ ShortOutput
+is_15 Header e = absurd (omega arith)
+is_15 Statements e = absurd (omega arith)
+is_15 Labels e = absurd (omega arith)
+is_15 Hypotheses e = absurd (omega arith)
+is_15 Entries e = absurd (omega arith)
+is_15 Children e = absurd (omega arith)
+is_15 Goal e = absurd (omega arith)
+is_15 BadLayout e = absurd (omega arith)
+is_15 Style e = absurd (omega arith)
+is_15 Mixed e = absurd (omega arith)
+is_15 StrayEssential e = absurd (omega arith)
+is_15 LongLabel e = absurd (omega arith)
+is_15 ManySteps e = absurd (omega arith)
+is_15 ShortWork e = absurd (omega arith)
+is_15 ShortOutput e = refl
+is_15 BadList e = absurd (omega arith)
+is_15 BadLetters e = absurd (omega arith)
+is_15 BadStack e = absurd (omega arith)

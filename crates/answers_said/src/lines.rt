@@ -13,14 +13,12 @@ pub fn line_end(text: &[u8], from: usize) -> usize
     requires { from ≤ length text.now }
     ensures { (result ≡ from + line_length (drop from text.now)) × (result ≤ length text.now) }
 {
-    let mut i = from;
-    while i < text.len() {
+    for i in from..text.len() {
         if text[i] == b'\n' {
             return i;
         }
-        i += 1;
     }
-    i
+    text.len()
 }
 
 // Where line k starts, or the end of the text where it has fewer.
@@ -28,14 +26,12 @@ pub fn line_start(text: &[u8], k: usize) -> usize
     ensures { (drop result text.now ≡ from_line k text.now) × (result ≤ length text.now) }
 {
     let mut start: usize = 0;
-    let mut i: usize = 0;
-    while i < k {
+    for _line in 0..k {
         let end = line_end(text, start);
         if end == text.len() {
             return end;
         }
         start = end + 1;
-        i += 1;
     }
     start
 }

@@ -7,9 +7,9 @@ ghost use Rattle.answers_said.specs.Refusals.{reason_line, refusal_line};
 use crate::lines::{LINE_BYTES, put_line};
 use layout::bytes::put_piece;
 use names::decimal::put_decimal;
-use table::numbers::wide;
 
 // Line 0 is for no refusal.
+// As it is: (a) refusal_said promises a line for every number, also for one that no refusal has, so the reasons are found by number.
 fn put_reason(number: u32, at: usize, out: &mut [u8]) -> usize
     requires { at < 1000 }
     ensures { Grows (reason_line number) at result out.old out.new }
@@ -35,7 +35,7 @@ malformed step list or label list
 malformed letters
 stack short, or not exactly one item at the end
 ",
-        wide(number),
+        number as usize,
         at,
         out,
     )

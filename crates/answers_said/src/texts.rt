@@ -6,6 +6,7 @@ ghost use Rattle.answers_said.specs.Texts.{text_room, text_said};
 
 use crate::limits::put_too_large;
 use crate::refusals::put_refusal;
+use answers::Refusal;
 use layout::Layout;
 use layout::bytes::{put_byte, put_piece};
 use text::text;
@@ -26,13 +27,18 @@ pub fn text_said(
 {
     let end = out.len() - 1;
     let answer = text(words, labels, style, layout, work, sums, &mut out[15..end]);
-    let number = answer.number;
-    if number == 15 {
-        return put_too_large(b"the text has more bytes than", (end - 15) as u32, out);
+    match answer {
+        Ok(length) => {
+            put_piece(b"done: the text\n", 0, out);
+            put_byte(b'\n', 15 + length, out)
+        }
+        Err(refusal) => match refusal {
+            Refusal::ShortOutput => put_too_large(
+                b"the text has more bytes than",
+                (end - 15) as u32,
+                out,
+            ),
+            _ => put_refusal(refusal.number(), out),
+        },
     }
-    if number != 0 {
-        return put_refusal(number, out);
-    }
-    put_piece(b"done: the text\n", 0, out);
-    put_byte(b'\n', 15 + answer.length, out)
 }

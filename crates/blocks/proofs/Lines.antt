@@ -2,8 +2,8 @@
 -- The indices emitted stand before the block, so emission leaves the block as it was, and removal leaves them as they were.
 use mathlib.Core.Path.{◌≡◌, refl, sym, ap, ap₂, ◌∙◌}
 use mathlib.Core.List.{List, [], ◌∷◌, ◌++◌, map}
-use Prim.Native.Nat.{ℕ, zero, suc, ◌+◌, ◌-◌, ◌*◌, ◌≤◌, ◌<◌}
-use native.Mathlib.Nat.{le_refl, mul-le-mul_left}
+use Prim.Native.Nat.{ℕ, zero, suc, ◌+◌, ◌-◌, ◌≤◌, ◌<◌}
+use native.Mathlib.Nat.{le_refl}
 use native.Mathlib.Omega.{arith}
 use borrow.Rule.Slice.PartMut.{put_mid, take_put, drop_put}
 use lib.ListN.{length, get_or, take, drop, length-append, length-drop, length-map}
@@ -41,12 +41,6 @@ choose_few cost (suc i) room =
 total_map : (f g : ℕ → ℕ) (xs : List ℕ) → total (map f (map g xs)) ≡ total (map (λ x. f (g x)) xs)
 total_map f g [] = refl
 total_map f g (x ∷ xs) = ap (λ (n : ℕ). f (g x) + n) (total_map f g xs)
-
--- a smaller room needs no more cells
-pub less_room : (count room W cells : ℕ) → room ≤ W → (count + 1) * (W + 1) ≤ cells → (count + 1) * (room + 1) ≤ cells
-less_room count room W cells h k =
-    let l : (count + 1) * (room + 1) ≤ (count + 1) * (W + 1) = mul-le-mul_left (count + 1) (let m : room + 1 ≤ W + 1 = omega arith in m) in
-    omega arith
 
 module _ (n W start position at count room-cells : ℕ) (w cells : List ℕ) (ready : Ready n W start position at count w room-cells)
     (first sum : ℕ) (ch : Chosen (take n w) (part start count w) (W - position) first sum cells) where

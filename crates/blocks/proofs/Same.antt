@@ -12,7 +12,8 @@ use Rattle.laws.specs.Lists.{boole, All, all_at, all_append, all_snoc, all_keep,
 use Rattle.laws.specs.Sums.{all_count, count_all}
 use Rattle.laws.specs.Counting.{range_below}
 use Rattle.defs.specs.Steps.{Step}
-use Rattle.defs.specs.Order.{listed, cost_of, use_of, by_use, by_index, Counter, cutoffs, start_at, blocks_from, floatings, blocks, best, rest_reaches, choose, Filling, chosen, emit, fill_within, fill_block, fill_blocks, label_list}
+use Rattle.defs.specs.Order.{listed, cost_of, use_of, by_use, by_index, Counter, cutoffs, start_at, blocks_from, floatings, blocks}
+use Rattle.defs.specs.Order.{best, rest_reaches, choose, Filling, chosen, emit, fill_within, fill_block, fill_blocks, label_list}
 use Rattle.defs.proofs.LabelLaws.{among}
 use Rattle.sorts.specs.Sorted.{lower, more_used}
 use Rattle.sorts.proofs.Sorting.{all_sort}

@@ -5,10 +5,10 @@ ghost use Rattle.defs.specs.Order.{cutoffs};
 ghost use Rattle.blocks.specs.Counted.{Counted};
 
 // The cutoffs form a constant table, each five times the one before.
-const CUTOFFS: [u32; 5] = [20, 100, 500, 2500, 12500];
+const CUTOFFS: [usize; 5] = [20, 100, 500, 2500, 12500];
 
 // The count i since the last cutoff, and which cutoff is in force.
-#[derive(Clone, Copy)]
+#[derive(Clone, Copy, Debug, PartialEq, Eq)]
 pub struct Counter {
     pub i: usize,
     pub level: usize,
@@ -18,7 +18,7 @@ pub fn cutoff_at(level: usize) -> usize
     requires { level < length cutoffs }
     ensures { result ≡ get_or cutoffs level 0 }
 {
-    CUTOFFS[level] as usize
+    CUTOFFS[level]
 }
 
 // Let i be the theorem's floating count; while cutoff ≤ i, take cutoff from i and go to the next cutoff.
@@ -28,11 +28,9 @@ pub fn start_at(floatings: usize) -> Counter
 {
     let mut i = floatings;
     let mut level: usize = 0;
-    let mut cutoff = cutoff_at(level);
-    while cutoff <= i {
-        i -= cutoff;
+    while cutoff_at(level) <= i {
+        i -= cutoff_at(level);
         level += 1;
-        cutoff = cutoff_at(level);
     }
     Counter { i, level }
 }

@@ -11,7 +11,7 @@ ghost use Rattle.blocks.specs.Line.{members_at, others, Once, is_next, position_
 ghost use Rattle.blocks.specs.State.{Ready, LineDone};
 
 // The line position, where the next index is emitted, and how many members of the block are left.
-#[derive(Clone, Copy)]
+#[derive(Clone, Copy, Debug, PartialEq, Eq)]
 pub struct Line {
     pub position: usize,
     pub at: usize,
@@ -24,11 +24,8 @@ fn put_members(work: &mut [u32], start: usize, places: &[u16], at: usize)
     requires all { All (λ p. start + p < length work.old) places.now }
     ensures { Placed (members_at (drop start work.old) places.now) at (at + length places.now) work.old work.new }
 {
-    let mut done: usize = 0;
-    while done < places.len() {
-        let p = places[done] as usize;
-        work[at + done] = work[start + p];
-        done += 1;
+    for (done, place) in places.iter().enumerate() {
+        work[at + done] = work[start + *place as usize];
     }
 }
 
@@ -37,10 +34,7 @@ fn pass(places: &[u16], gone: usize, p: usize) -> usize
     requires { gone ≤ length places.now }
     ensures { result ≡ pick (is_next places.now gone p) (gone + 1) gone }
 {
-    if places.len() <= gone {
-        return gone;
-    }
-    if places[gone] as usize == p {
+    if gone < places.len() && places[gone] as usize == p {
         return gone + 1;
     }
     gone
@@ -55,13 +49,11 @@ fn remove(block: &mut [u32], places: &[u16]) -> usize
         × (take result block.new ≡ others block.old (members_at block.old places.now)) }
 {
     let mut gone: usize = 0;
-    let mut p: usize = 0;
-    while p < block.len() {
+    for p in 0..block.len() {
         block[p - gone] = block[p];
         gone = pass(places, gone, p);
-        p += 1;
     }
-    p - gone
+    block.len() - gone
 }
 
 // If nothing was chosen or position ≥ W − 1, position becomes 0.
@@ -69,10 +61,7 @@ fn position_after(width: usize, chosen: usize, position: usize) -> usize
     requires { 0 < width }
     ensures { result ≡ position_after width chosen position }
 {
-    if chosen == 0 {
-        return 0;
-    }
-    if width - 1 <= position {
+    if chosen == 0 || width - 1 <= position {
         return 0;
     }
     position

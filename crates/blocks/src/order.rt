@@ -13,27 +13,22 @@ fn fill_blocks(work: &mut [u32], n: usize, floatings: usize, width: usize, sums:
     requires { Fitting n width floatings work.old (length sums.old) × Labels n work.old }
     ensures { part n n work.new ≡ (filled_from (λ j. get_or (take n work.old) j 0) width floatings (drop (n + n) work.old)).emitted }
 {
-    let counter = start_at(floatings);
-    let mut i = counter.i;
-    let mut level = counter.level;
-    let mut cutoff = cutoff_at(level);
+    let mut counter = start_at(floatings);
     let mut position: usize = 2;
-    let mut start = n + n;
-    let mut next = start;
-    while next < work.len() {
-        let label = next;
-        next += 1;
-        if i == cutoff {
+    let first = n + n;
+    let end = work.len();
+    let mut start = first;
+    for label in first..end {
+        if counter.i == cutoff_at(counter.level) {
             position = fill_block(work, n, start, label, position, width, sums);
             start = label;
-            level += 1;
-            cutoff = cutoff_at(level);
-            i = 1;
+            counter.level += 1;
+            counter.i = 1;
         } else {
-            i += 1;
+            counter.i += 1;
         }
     }
-    fill_block(work, n, start, next, position, width, sums);
+    fill_block(work, n, start, end, position, width, sums);
 }
 
 // The label order: the indices of n labels as they are emitted. At entry `work` has the costs of the labels, by index, then their
@@ -42,8 +37,8 @@ pub fn label_order(work: &mut [u32], n: usize, floatings: usize, width: usize, s
     requires { Fitting n width floatings work.old (length sums.old) }
     ensures { part n n work.new ≡ index_order (take n work.old) (part n n work.old) floatings width }
 {
-    let labels = n + n;
-    number(&mut work[labels..]);
-    sort_by_use(&mut work[n..], n);
+    let (counts, order) = work.split_at_mut(n + n);
+    number(order);
+    sort_by_use(&counts[n..], order);
     fill_blocks(work, n, floatings, width, sums);
 }

@@ -7,6 +7,10 @@ use Prim.Native.Nat.{ℕ, zero, suc, ◌-◌, ◌<◌, ◌≤◌}
 use native.Mathlib.Omega.{arith}
 use lib.ListN.{length, get_or, take, drop}
 use lib.Seq.{take_at}
+use Rattle.std.specs.Prelude.{Result, Ok, Err, IfOk}
+use Rattle.answers.specs.declared.refusals.Refusal.{Refusal}
+use Rattle.answers.specs.declared.written.Lengths.{Lengths}
+use Rattle.answers.specs.Refused.{answer_number, answer_first}
 use Rattle.laws.specs.Lists.{boole, all_at}
 use Rattle.defs.specs.Table.{statements, statement_words, label_length}
 use Rattle.defs.specs.Check.{Test, ◌when◌, first_of, or_else, table_refusal}
@@ -41,11 +45,11 @@ all_passed w b l work sums list letters e =
     let after11 = (passes 11 _ _ (omega arith) after10).1 in
     (s.0, (passes 12 _ _ (omega arith) after11).0)
 
-pub letters_listed : (w b : List ℕ) (l : Layout) (work₀ sums₀ list₀ letters₀ : List ℕ) {number first second : ℕ} {work sums list letters : List ℕ}
+listed : (w b : List ℕ) (l : Layout) (work₀ sums₀ list₀ letters₀ : List ℕ) {number first second : ℕ} {work sums list letters : List ℕ}
     → answer_two number first second (work ∷ sums ∷ []) list letters ≡ letters_outcome w b l work₀ sums₀ list₀ letters₀
     → number ≡ 0 → Listed w b (take first list)
 unfolding letters_outcome two_outputs
-letters_listed w b l work₀ sums₀ list₀ letters₀ {number} {first} {second} {work} {sums} {list} {letters} e z =
+listed w b l work₀ sums₀ list₀ letters₀ {number} {first} {second} {work} {sums} {list} {letters} e z =
     let zero_is : letters_number w b l work₀ sums₀ list₀ letters₀ ≡ 0 = sym (ap (λ (o : Outcome). o.number) e) ∙ z in
     let done = e ∙ two_done (letters_number w b l work₀ sums₀ list₀ letters₀) (labels_of w l) (letters_for w l) (work₀ ∷ sums₀ ∷ []) list₀ letters₀ zero_is in
     let first_is : first ≡ length (labels_of w l) = ap (λ (o : Outcome). get_or o.lengths 0 0) done in
@@ -56,6 +60,13 @@ letters_listed w b l work₀ sums₀ list₀ letters₀ {number} {first} {second
       ok = ok.0;
       below = λ i h. (all_at (λ k. (k < statements w) × (label_length w k ≤ l.width - l.indent)) (labels_of w l) 0 (labels_listed w b l ok.0 ok.1) i h).0;
     })
+
+pub letters_listed : (w b : List ℕ) (l : Layout) (work₀ sums₀ list₀ letters₀ : List ℕ) {second : ℕ} {work sums list letters : List ℕ}
+    (answer : Result Lengths Refusal)
+    → answer_two (answer_number answer) (answer_first answer) second (work ∷ sums ∷ []) list letters ≡ letters_outcome w b l work₀ sums₀ list₀ letters₀
+    → IfOk answer (λ lengths. Listed w b (take lengths.first list))
+letters_listed w b l work₀ sums₀ list₀ letters₀ (Ok lengths) e = listed w b l work₀ sums₀ list₀ letters₀ e refl
+letters_listed w b l work₀ sums₀ list₀ letters₀ (Err _) e = record {}
 
 -- the label of each stands in the label bytes
 pub label_is_in : {w b list ss : List ℕ} → Listed w b list → ss ≡ statement_words w → (i : ℕ) → i < length list → LabelIn ss b (get_or list i 0)

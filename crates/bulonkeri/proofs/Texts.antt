@@ -16,7 +16,7 @@ use Rattle.defs.specs.NameLaws.{value, value_digits}
 use Rattle.names.specs.Decimals.{capped}
 use Rattle.names.proofs.Decimals.{digits_most}
 use Rattle.bulonkeri.specs.Numbers.{Says}
-use Rattle.bulonkeri.specs.declared.numbers.Number.TheVariants.{Is, None}
+use Rattle.std.specs.Prelude.{Some, None}
 use Rattle.bulonkeri.proofs.Fits.{counts}
 
 pub number_text : (number x : ℕ) {before between after : List ℕ} {end r : ℕ} → number < 4294967296 → length before ≡ 11
@@ -30,7 +30,7 @@ number_text number x {before} {between} {after} {end} {r} few eleven p q =
     let inside : r ≤ length before = omega (arith, g.ends) in
     (counts r after (omega (arith, g.kept)), ap (take r) (g.fits inside) ∙ take_at text (drop r before) r (omega (arith, g.ends)))
 
-pub says_number : (text : List ℕ) (v : ℕ) {found : Bool} → found ≡ same text (digits v) → found ≡ true → Says text (Is v)
+pub says_number : (text : List ℕ) (v : ℕ) {found : Bool} → found ≡ same text (digits v) → found ≡ true → Says text (Some v)
 unfolding Says
 says_number text v e t = same_is text (digits v) (T_of (sym e ∙ t))
 

@@ -46,3 +46,18 @@ pub fn name_argument<'a>(
         Err(FillError::NotPresent) => Err(Error::from_raw_os_error(EINVAL)),
     }
 }
+
+// What `read` makes of argument i; nothing of one that is not there, or longer than 16 bytes.
+pub fn read_argument<T, F: FnOnce(&[u8]) -> Option<T>>(
+    rt: &impl Env,
+    i: usize,
+    read: F,
+) -> Option<T>
+    requires { F.IsAlwaysCallable read }
+{
+    let mut text = [0u8; 16];
+    match rt.arg(i, &mut text) {
+        Ok(length) => read(&text[..length]),
+        Err(_) => None,
+    }
+}

@@ -1,14 +1,12 @@
-// Which command is asked for. Where it is none, or its arguments are wrong, one line says so and nothing is done.
-use crate::arguments::argument_count;
-use crate::lines::line_named;
+// Which command is asked for.
+use crate::arguments::{argument_count, read_argument};
 use crate::list::ListKind;
 use crate::texting::TextForm;
-use crate::usage::{arguments_error, usage};
 use crate::{list, spelling, texting, verifying};
 use layout::Layout;
 use std::env::Env;
 
-#[derive(Drop)]
+#[derive(Clone, Copy, Debug, PartialEq, Eq)]
 pub enum Command {
     Check,
     Parents,
@@ -20,60 +18,75 @@ pub enum Command {
     Clean,
 }
 
-// The number past the last command.
-const NO_COMMAND: usize = 8;
-
-#[derive(Drop)]
-pub enum Asked {
-    For(Command),
-    Nothing,
+// What the first argument says.
+#[derive(Clone, Copy, Debug, PartialEq, Eq)]
+enum Name {
+    Check,
+    Parents,
+    Distances,
+    List,
+    Letters,
+    Text,
+    Verify,
+    Clean,
 }
 
-// Wrong arguments of the command with this number, the place of its name in `command_named`.
-pub fn wrong(rt: &(impl Print + Eprint), number: usize) -> Asked {
-    arguments_error(rt, number);
-    Asked::Nothing
+// Why nothing is done: no command is named, or what is said is not of this form.
+#[derive(Clone, Copy)]
+pub enum Misuse {
+    NoCommand,
+    Expected(&'static [u8]),
 }
+
+// Any of the commands.
+const COMMANDS: &[u8] = b"check, parents, distances, list, letters, text, verify or clean";
 
 // A command that takes so many arguments; the program's name and the command's are counted too.
 fn with_arguments(
-    rt: &(impl Env + Print + Eprint),
+    rt: &impl Env,
     count: usize,
     command: Command,
-    number: usize,
-) -> Asked {
+    form: &'static [u8],
+) -> Result<Command, Misuse> {
     if argument_count(rt) != count {
-        return wrong(rt, number);
+        return Err(Misuse::Expected(form));
     }
-    Asked::For(command)
+    Ok(command)
 }
 
-fn command_named(rt: &(impl Env + Print + Eprint), name: &[u8]) -> Asked {
-    let number = line_named(
-        b"check\nparents\ndistances\nlist\nletters\ntext\nverify\nclean\n",
-        name,
-    );
-    match number {
-        0 => with_arguments(rt, 3, Command::Check, number),
-        1 => with_arguments(rt, 3, Command::Parents, number),
-        2 => with_arguments(rt, 3, Command::Distances, number),
-        3 => list::read_command(rt, number),
-        4 => spelling::read_command(rt, number),
-        5 => texting::read_command(rt, number),
-        6 => verifying::read_command(rt, number),
-        7 => with_arguments(rt, 4, Command::Clean, number),
-        _ => wrong(rt, number),
+fn name_in(name: &[u8]) -> Option<Name> {
+    match name {
+        b"check" => Some(Name::Check),
+        b"parents" => Some(Name::Parents),
+        b"distances" => Some(Name::Distances),
+        b"list" => Some(Name::List),
+        b"letters" => Some(Name::Letters),
+        b"text" => Some(Name::Text),
+        b"verify" => Some(Name::Verify),
+        b"clean" => Some(Name::Clean),
+        _ => None,
     }
 }
 
-pub fn read_command(rt: &(impl Env + Print + Eprint)) -> Asked {
+fn command_named(rt: &impl Env, name: Name) -> Result<Command, Misuse> {
+    match name {
+        Name::Check => with_arguments(rt, 3, Command::Check, b"check FILE"),
+        Name::Parents => with_arguments(rt, 3, Command::Parents, b"parents FILE"),
+        Name::Distances => with_arguments(rt, 3, Command::Distances, b"distances FILE"),
+        Name::List => list::read_command(rt),
+        Name::Letters => spelling::read_command(rt),
+        Name::Text => texting::read_command(rt),
+        Name::Verify => verifying::read_command(rt),
+        Name::Clean => with_arguments(rt, 4, Command::Clean, b"clean FILE NEWFILE"),
+    }
+}
+
+pub fn read_command(rt: &impl Env) -> Result<Command, Misuse> {
     if argument_count(rt) < 2 {
-        usage(rt);
-        return Asked::Nothing;
+        return Err(Misuse::NoCommand);
     }
-    let mut name = [0u8; 16];
-    let Ok(length) = rt.arg(1, &mut name) else {
-        return wrong(rt, NO_COMMAND);
-    };
-    command_named(rt, &name[..length])
+    match read_argument(rt, 1, name_in) {
+        Some(name) => command_named(rt, name),
+        None => Err(Misuse::Expected(COMMANDS)),
+    }
 }

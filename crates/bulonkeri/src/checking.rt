@@ -24,10 +24,8 @@ fn print_counts(rt: &(impl Print + Eprint), words: &[u32])
 }
 
 pub fn run(rt: &(impl Print + Eprint), words: &[u32], labels: &[u8]) {
-    let number = check(words, labels);
-    if number != 0 {
-        refused(rt, number);
-        return;
+    match check(words, labels) {
+        Ok(()) => print_counts(rt, words),
+        Err(refusal) => refused(rt, refusal),
     }
-    print_counts(rt, words);
 }

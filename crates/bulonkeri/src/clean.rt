@@ -1,6 +1,6 @@
 // The command clean: the packed list, read back into entries, and written as a new table: the statements and hypotheses as they
 // were, the entries and children that were read, QED the last entry.
-ghost use Rattle.std.specs.Prelude.{◌≤◌, length};
+ghost use Rattle.std.specs.Prelude.{◌≤◌, length, take, IfOk};
 ghost use Rattle.io.specs.Counts.{IsPrefixLen};
 ghost use Rattle.new_table.specs.NewTables.{most_entry_words, most_child_words, Renewable};
 
@@ -11,16 +11,21 @@ use crate::numbers::print_number;
 use crate::printing::print;
 use crate::refusals::refused;
 use crate::writing::write_table;
+use answers::{Lengths, Refusal};
 use lists::packed::packed_list;
 use new_table::entry_count;
 use std::env::Env;
 use std::fs::{Files, OpenOptions, remove_file};
-use table::{Written, WrittenTwo};
 use table_check::check;
 
 // The library's operations; what they wrote stands at the front of the outputs.
-fn packed(words: &[u32], labels: &[u8], work: &mut [u32], steps: &mut [u32]) -> Written
-    ensures { IsPrefixLen result.length steps.new }
+fn packed(
+    words: &[u32],
+    labels: &[u8],
+    work: &mut [u32],
+    steps: &mut [u32],
+) -> Result<usize, Refusal>
+    ensures { IfOk result (λ count. IsPrefixLen count steps.new) }
 {
     packed_list(words, labels, false, work, steps)
 }
@@ -32,9 +37,9 @@ fn read_back(
     work: &mut [u32],
     entries: &mut [u32],
     children: &mut [u32],
-) -> WrittenTwo
-    ensures prefix_len { IsPrefixLen result.first entries.new }
-    ensures prefix_len_2 { IsPrefixLen result.second children.new }
+) -> Result<Lengths, Refusal>
+    ensures prefix_len { IfOk result (λ lengths. IsPrefixLen lengths.first entries.new) }
+    ensures prefix_len_2 { IfOk result (λ lengths. IsPrefixLen lengths.second children.new) }
 {
     replay::replay(words, labels, steps, work, entries, children)
 }
@@ -109,6 +114,25 @@ fn store_as_asked(
     }
 }
 
+// The packed list, read back: what stands at the front of the two slices can be written as a new table.
+fn renewed(
+    words: &[u32],
+    labels: &[u8],
+    work: &mut [u32],
+    steps: &mut [u32],
+    entries: &mut [u32],
+    children: &mut [u32],
+) -> Result<Lengths, Refusal>
+    requires { (length entries.old ≤ most_entry_words) × (length children.old ≤ most_child_words) }
+    ensures prefix_len { IfOk result (λ lengths. IsPrefixLen lengths.first entries.new) }
+    ensures prefix_len_2 { IfOk result (λ lengths. IsPrefixLen lengths.second children.new) }
+    ensures renewable { IfOk result (λ lengths. Renewable words.now (take lengths.first entries.new) (take lengths.second children.new)) }
+{
+    check(words, labels)?;
+    let length = packed(words, labels, work, steps)?;
+    read_back(words, labels, &steps[..length], work, entries, children)
+}
+
 fn renew(
     rt: &(impl Env + Files + Print + Eprint),
     words: &[u32],
@@ -120,25 +144,16 @@ fn renew(
 )
     requires { (length entries.old ≤ most_entry_words) × (length children.old ≤ most_child_words) }
 {
-    let number = check(words, labels);
-    if number != 0 {
-        refused(rt, number);
-        return;
+    match renewed(words, labels, work, steps, entries, children) {
+        Ok(lengths) => store_as_asked(
+            rt,
+            words,
+            labels,
+            &entries[..lengths.first],
+            &children[..lengths.second],
+        ),
+        Err(refusal) => refused(rt, refusal),
     }
-    let list = packed(words, labels, work, steps);
-    let length = list.length;
-    let read = read_back(words, labels, &steps[..length], work, entries, children);
-    let built = read.first;
-    let kids = read.second;
-    if list.number != 0 {
-        refused(rt, list.number);
-        return;
-    }
-    if read.number != 0 {
-        refused(rt, read.number);
-        return;
-    }
-    store_as_asked(rt, words, labels, &entries[..built], &children[..kids]);
 }
 
 pub fn run(rt: &(impl Env + Files + Print + Eprint), words: &[u32], labels: &[u8]) {

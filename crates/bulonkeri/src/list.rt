@@ -1,48 +1,48 @@
 // The command list: a step list, a line for each step.
+ghost use Rattle.std.specs.Prelude.{IfOk};
 ghost use Rattle.io.specs.Counts.{IsPrefixLen};
 
-use crate::arguments::argument_count;
-use crate::asked::{Asked, Command, wrong};
+use crate::arguments::{argument_count, read_argument};
+use crate::asked::{Command, Misuse};
 use crate::errors::too_large;
 use crate::limits::{LIST_WORDS, MOST_STEPS, WORK_WORDS};
-use crate::lines::line_named;
 use crate::printing::print;
 use crate::refusals::refused;
 use crate::rows::print_rows;
+use answers::Refusal;
 use std::env::Env;
-use table::Written;
-use walk::steps::STEP_WORDS;
+use table::limits::STEP_WORDS;
 
-#[derive(Drop)]
+#[derive(Clone, Copy, Debug, PartialEq, Eq)]
 pub struct ListKind {
     pub packed: bool,
     pub explicit: bool,
 }
 
-fn asked_for(packed: bool, explicit: bool) -> Asked {
-    Asked::For(Command::List(ListKind { packed, explicit }))
+fn kind(packed: bool, explicit: bool) -> Option<ListKind> {
+    Some(ListKind { packed, explicit })
 }
 
-fn kind_named(rt: &(impl Print + Eprint), name: &[u8], number: usize) -> Asked {
-    match line_named(b"normal\npacked\nexplicit\npacked-explicit\n", name) {
-        0 => asked_for(false, false),
-        1 => asked_for(true, false),
-        2 => asked_for(false, true),
-        3 => asked_for(true, true),
-        _ => wrong(rt, number),
+fn kind_named(name: &[u8]) -> Option<ListKind> {
+    match name {
+        b"normal" => kind(false, false),
+        b"packed" => kind(true, false),
+        b"explicit" => kind(false, true),
+        b"packed-explicit" => kind(true, true),
+        _ => None,
     }
 }
 
-// The kind is the third argument; `number` is the command's.
-pub fn read_command(rt: &(impl Env + Print + Eprint), number: usize) -> Asked {
+// The kind is the third argument, and the last.
+pub fn read_command(rt: &impl Env) -> Result<Command, Misuse> {
+    const FORM: &[u8] = b"list FILE normal|packed|explicit|packed-explicit";
     if argument_count(rt) != 4 {
-        return wrong(rt, number);
+        return Err(Misuse::Expected(FORM));
     }
-    let mut name = [0u8; 16];
-    let Ok(length) = rt.arg(3, &mut name) else {
-        return wrong(rt, number);
-    };
-    kind_named(rt, &name[..length], number)
+    match read_argument(rt, 3, kind_named) {
+        Some(kind) => Ok(Command::List(kind)),
+        None => Err(Misuse::Expected(FORM)),
+    }
 }
 
 // The library's operations; what they wrote stands at the front of the output.
@@ -52,8 +52,8 @@ fn step_list(
     kind: ListKind,
     work: &mut [u32],
     out: &mut [u32],
-) -> Written
-    ensures { IsPrefixLen result.length out.new }
+) -> Result<usize, Refusal>
+    ensures { IfOk result (λ count. IsPrefixLen count out.new) }
 {
     if kind.packed {
         return lists::packed::packed_list(words, labels, kind.explicit, work, out);
@@ -69,19 +69,14 @@ fn show(
     work: &mut [u32],
     out: &mut [u32],
 ) {
-    let answer = step_list(words, labels, kind, work, out);
-    let length = answer.length;
-    let number = answer.number;
-    if number == 15 {
-        too_large(rt, b"the list has more steps than", MOST_STEPS);
-        return;
+    match step_list(words, labels, kind, work, out) {
+        Ok(length) => {
+            print(rt, b"done: steps of five numbers\n");
+            print_rows(rt, &out[..length], STEP_WORDS);
+        }
+        Err(Refusal::ShortOutput) => too_large(rt, b"the list has more steps than", MOST_STEPS),
+        Err(refusal) => refused(rt, refusal),
     }
-    if number != 0 {
-        refused(rt, number);
-        return;
-    }
-    print(rt, b"done: steps of five numbers\n");
-    print_rows(rt, &out[..length], STEP_WORDS);
 }
 
 pub fn run(rt: &(impl Print + Eprint), words: &[u32], labels: &[u8], kind: ListKind) {

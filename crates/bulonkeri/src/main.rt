@@ -10,7 +10,6 @@ mod distances; // distances.rt: the command distances
 mod errors; // errors.rt: lines that say why nothing was answered
 mod layouts; // layouts.rt: a layout as three arguments
 mod limits; // limits.rt: the sizes of the program's arrays
-mod lines; // lines.rt: lines of a text
 mod list; // list.rt: the command list
 mod numbers; // numbers.rt: numbers as decimals, printed and read
 mod parents; // parents.rt: the command parents
@@ -24,7 +23,7 @@ mod usage; // usage.rt: how the program is called
 mod verifying; // verifying.rt: the command verify
 mod writing; // writing.rt: a table file written
 
-use asked::{Asked, Command};
+use asked::Command;
 use limits::{LABEL_BYTES, TABLE_WORDS};
 use std::env::Env;
 use std::fs::Files;
@@ -53,13 +52,14 @@ fn load_and_answer(
     words: &mut [u32],
     labels: &mut [u8],
 ) {
-    let loaded = reading::load(rt, words, labels);
-    if !loaded.done {
-        return;
+    if let Some(loaded) = reading::load(rt, words, labels) {
+        answer(
+            rt,
+            command,
+            &words[..loaded.words],
+            &labels[..loaded.labels],
+        );
     }
-    let count = loaded.words;
-    let size = loaded.labels;
-    answer(rt, command, &words[..count], &labels[..size]);
 }
 
 // There is no heap: a table stands in two arrays.
@@ -70,8 +70,8 @@ fn run(rt: &(impl Env + Files + Print + Eprint), command: Command) {
 }
 
 fn main(rt: HostRuntime) {
-    let Asked::For(command) = asked::read_command(&rt) else {
-        return;
-    };
-    run(&rt, command);
+    match asked::read_command(&rt) {
+        Ok(command) => run(&rt, command),
+        Err(misuse) => usage::misused(&rt, misuse),
+    }
 }

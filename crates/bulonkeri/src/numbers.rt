@@ -27,20 +27,14 @@ pub fn print_number(rt: &(impl Print + Eprint), number: u32, after: u8) -> bool 
     print(rt, &text[..end])
 }
 
-#[derive(Drop)]
-pub enum Number {
-    Is(u32),
-    None,
-}
-
 // A decimal with no leading zero, up to 100,000: more than any layout has.
-pub fn number_in(text: &[u8]) -> Number
+pub fn number_in(text: &[u8]) -> Option<u32>
     ensures { Says text.now result }
 {
     let number = number_of(text);
     if is_decimal(text, number) {
-        Number::Is(number)
+        Some(number)
     } else {
-        Number::None
+        None
     }
 }

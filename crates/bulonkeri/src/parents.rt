@@ -1,29 +1,21 @@
 // The command parents: the parent count of each entry, a line each.
+ghost use Rattle.std.specs.Prelude.{IfOk};
 ghost use Rattle.io.specs.Counts.{IsPrefixLen};
 
 use crate::limits::MOST_ENTRIES;
-use crate::printing::print;
-use crate::refusals::refused;
-use crate::rows::print_rows;
-use table::Written;
+use crate::rows::print_counted;
+use answers::Refusal;
 
 // The library's operation; what it wrote stands at the front of the output.
-fn count(words: &[u32], labels: &[u8], out: &mut [u32]) -> Written
-    ensures { IsPrefixLen result.length out.new }
+fn count(words: &[u32], labels: &[u8], out: &mut [u32]) -> Result<usize, Refusal>
+    ensures { IfOk result (λ count. IsPrefixLen count out.new) }
 {
     counts::parents::parents(words, labels, out)
 }
 
 fn show(rt: &(impl Print + Eprint), words: &[u32], labels: &[u8], out: &mut [u32]) {
     let answer = count(words, labels, out);
-    let length = answer.length;
-    let number = answer.number;
-    if number != 0 {
-        refused(rt, number);
-        return;
-    }
-    print(rt, b"done: parents of each entry\n");
-    print_rows(rt, &out[..length], 1);
+    print_counted(rt, answer, &out[..], b"done: parents of each entry\n");
 }
 
 pub fn run(rt: &(impl Print + Eprint), words: &[u32], labels: &[u8]) {

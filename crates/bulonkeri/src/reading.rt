@@ -1,6 +1,6 @@
 // A table file read: a count of words, that many words, then the label bytes to the end of the file. Where it cannot be read, one
 // line says why.
-ghost use Rattle.std.specs.Prelude.{◌≡◌, ◌≤◌, length};
+ghost use Rattle.std.specs.Prelude.{◌≡◌, ◌≤◌, length, IfOk, IfSome, Ok};
 ghost use Rattle.io.specs.Counts.{IsPrefixLen};
 
 use crate::arguments::{NAME_BYTES, name_argument};
@@ -9,8 +9,8 @@ use crate::limits::{LABEL_BYTES, TABLE_WORDS};
 use crate::printing::print;
 use std::env::Env;
 use std::fs::{File, Files};
-use std::io::{Error, Read};
-use table::numbers::wide;
+use std::io;
+use std::io::Read;
 use table_file::{decode, word};
 
 const CHUNK_BYTES: usize = 4096;
@@ -18,65 +18,38 @@ const CHUNK_BYTES: usize = 4096;
 // The words of a chunk.
 const CHUNK_WORDS: usize = 1024;
 
-// How many elements were read, and the error, if any, that ended the reading.
-#[derive(Drop)]
-struct Got {
-    count: usize,
-    error: Option<Error>,
-}
-
-#[derive(Drop)]
-enum Count {
-    Is(usize),
-    None,
-}
-
-#[derive(Drop)]
+// How many words and label bytes a table has.
+#[derive(Clone, Copy, Debug, PartialEq, Eq)]
 pub struct Loaded {
-    pub done: bool,
     pub words: usize,
     pub labels: usize,
 }
 
 // Reads until the slice is full or the file ends. Unlike std's read_exact it says how many bytes there were.
-fn read_bytes(file: &mut impl Read, bytes: &mut [u8]) -> Got
-    ensures { IsPrefixLen result.count bytes.new }
+fn read_bytes(file: &mut impl Read, bytes: &mut [u8]) -> io::Result<usize>
+    ensures { IfOk result (λ count. IsPrefixLen count bytes.new) }
 {
     let mut done: usize = 0;
     while done < bytes.len() {
-        match file.read(&mut bytes[done..]) {
-            Ok(0) => break,
-            Ok(more) => done += more,
-            Err(error) => {
-                return Got {
-                    count: done,
-                    error: Some(error),
-                };
-            }
+        match file.read(&mut bytes[done..])? {
+            0 => break,
+            more => done += more,
         }
     }
-    Got {
-        count: done,
-        error: None,
-    }
+    Ok(done)
 }
 
-fn read_chunk(file: &mut impl Read, chunk: &mut [u8], words: &mut [u32]) -> Got
-    ensures { result.count ≤ length words.new }
+fn read_chunk(file: &mut impl Read, chunk: &mut [u8], words: &mut [u32]) -> io::Result<usize>
+    ensures { IfOk result (λ count. count ≤ length words.new) }
 {
-    let got = read_bytes(file, chunk);
-    let size = got.count;
-    let count = decode(&chunk[..size], words);
-    Got {
-        count,
-        error: got.error,
-    }
+    let size = read_bytes(file, chunk)?;
+    Ok(decode(&chunk[..size], words))
 }
 
 // Reads as many words as the chunk and the slice hold.
-fn read_into(file: &mut impl Read, chunk: &mut [u8], words: &mut [u32]) -> Got
+fn read_into(file: &mut impl Read, chunk: &mut [u8], words: &mut [u32]) -> io::Result<usize>
     requires { 4096 ≤ length chunk.old }
-    ensures { result.count ≤ length words.new }
+    ensures { IfOk result (λ count. count ≤ length words.new) }
 {
     if words.len() < CHUNK_WORDS {
         let size = 4 * words.len();
@@ -85,8 +58,8 @@ fn read_into(file: &mut impl Read, chunk: &mut [u8], words: &mut [u32]) -> Got
     read_chunk(file, chunk, words)
 }
 
-fn read_some(file: &mut impl Read, words: &mut [u32]) -> Got
-    ensures { result.count ≤ length words.new }
+fn read_some(file: &mut impl Read, words: &mut [u32]) -> io::Result<usize>
+    ensures { IfOk result (λ count. count ≤ length words.new) }
 {
     let mut chunk = [0u8; CHUNK_BYTES];
     read_into(file, &mut chunk, words)
@@ -98,6 +71,19 @@ fn ends_early(rt: &(impl Print + Eprint), path: &str) {
     print(rt, b" ends before the words that it counts\n");
 }
 
+// How many were read, or a line that says why none were.
+fn or_say(rt: &(impl Print + Eprint), path: &str, read: io::Result<usize>) -> Option<usize>
+    ensures { IfSome result (λ count. read ≡ Ok count) }
+{
+    match read {
+        Ok(count) => Some(count),
+        Err(error) => {
+            file_error(rt, "read", path, error);
+            None
+        }
+    }
+}
+
 // Fills the slice, and answers whether the file had so many words.
 fn read_words(
     rt: &(impl Print + Eprint),
@@ -107,83 +93,56 @@ fn read_words(
 ) -> bool {
     let mut done: usize = 0;
     while done < words.len() {
-        let got = read_some(file, &mut words[done..]);
-        if let Some(error) = got.error {
-            file_error(rt, "read", path, error);
-            return false;
+        match read_some(file, &mut words[done..]) {
+            Ok(0) => {
+                ends_early(rt, path);
+                return false;
+            }
+            Ok(more) => done += more,
+            Err(error) => {
+                file_error(rt, "read", path, error);
+                return false;
+            }
         }
-        if got.count == 0 {
-            ends_early(rt, path);
-            return false;
-        }
-        done += got.count;
     }
     true
 }
 
 // The first word of the file.
-fn read_count(rt: &(impl Print + Eprint), file: &mut impl Read, path: &str) -> Count {
+fn read_count(rt: &(impl Print + Eprint), file: &mut impl Read, path: &str) -> Option<usize> {
     let mut four = [0u8; 4];
     let got = read_bytes(file, &mut four);
-    if let Some(error) = got.error {
-        file_error(rt, "read", path, error);
-        return Count::None;
-    }
-    if got.count < 4 {
+    if or_say(rt, path, got)? < 4 {
         ends_early(rt, path);
-        return Count::None;
+        return None;
     }
-    Count::Is(wide(word(&four, 0)))
+    Some(word(&four, 0) as usize)
 }
 
 // One byte more: none where the file ends here.
-fn read_past(file: &mut impl Read) -> Got {
+fn read_past(file: &mut impl Read) -> io::Result<usize> {
     let mut one = [0u8; 1];
     read_bytes(file, &mut one)
 }
 
-fn nothing() -> Loaded
-    ensures { (result.words ≡ 0) × (result.labels ≡ 0) }
-{
-    Loaded {
-        done: false,
-        words: 0,
-        labels: 0,
-    }
-}
-
-// Whether the file ended after the label bytes; where it did not, a line says why.
-fn ended(rt: &(impl Print + Eprint), path: &str, error: Option<Error>, past: usize) -> bool {
-    if let Some(error) = error {
-        file_error(rt, "read", path, error);
-        return false;
-    }
-    if 0 < past {
-        too_large(rt, b"more label bytes than", LABEL_BYTES as u32);
-        return false;
-    }
-    true
-}
-
-// The label bytes, to the end of the file.
+// The label bytes, to the end of the file. An error past them is said before one among them.
 fn read_labels(
     rt: &(impl Print + Eprint),
     file: &mut impl Read,
     path: &str,
     labels: &mut [u8],
-    words: usize,
-) -> Loaded
-    ensures prefix_len { IsPrefixLen result.labels labels.new }
-    ensures words_value { result.words ≡ words }
+) -> Option<usize>
+    ensures { IfSome result (λ count. IsPrefixLen count labels.new) }
 {
     let got = read_bytes(file, labels);
     let past = read_past(file);
-    let done = ended(rt, path, past.error.or(got.error), past.count);
-    Loaded {
-        done,
-        words,
-        labels: got.count,
+    let more = or_say(rt, path, past)?;
+    let count = or_say(rt, path, got)?;
+    if 0 < more {
+        too_large(rt, b"more label bytes than", LABEL_BYTES as u32);
+        return None;
     }
+    Some(count)
 }
 
 fn read_table(
@@ -192,21 +151,23 @@ fn read_table(
     path: &str,
     words: &mut [u32],
     labels: &mut [u8],
-) -> Loaded
-    ensures prefix_len { IsPrefixLen result.words words.new }
-    ensures prefix_len_2 { IsPrefixLen result.labels labels.new }
+) -> Option<Loaded>
+    ensures prefix_len { IfSome result (λ loaded. IsPrefixLen loaded.words words.new) }
+    ensures prefix_len_2 { IfSome result (λ loaded. IsPrefixLen loaded.labels labels.new) }
 {
-    let Count::Is(count) = read_count(rt, file, path) else {
-        return nothing();
-    };
+    let count = read_count(rt, file, path)?;
     if words.len() < count {
         too_large(rt, b"more words than", TABLE_WORDS as u32);
-        return nothing();
+        return None;
     }
     if !read_words(rt, file, path, &mut words[..count]) {
-        return nothing();
+        return None;
     }
-    read_labels(rt, file, path, labels, count)
+    let size = read_labels(rt, file, path, labels)?;
+    Some(Loaded {
+        words: count,
+        labels: size,
+    })
 }
 
 fn load_from(
@@ -214,34 +175,34 @@ fn load_from(
     path: &str,
     words: &mut [u32],
     labels: &mut [u8],
-) -> Loaded
-    ensures prefix_len { IsPrefixLen result.words words.new }
-    ensures prefix_len_2 { IsPrefixLen result.labels labels.new }
+) -> Option<Loaded>
+    ensures prefix_len { IfSome result (λ loaded. IsPrefixLen loaded.words words.new) }
+    ensures prefix_len_2 { IfSome result (λ loaded. IsPrefixLen loaded.labels labels.new) }
 {
     match File::open(rt, path) {
         Ok(mut file) => read_table(rt, &mut file, path, words, labels),
         Err(error) => {
             file_error(rt, "open", path, error);
-            nothing()
+            None
         }
     }
 }
 
-// The table file that the second argument names.
+// The table file that the second argument names; where it cannot be read, a line says why.
 pub fn load(
     rt: &(impl Env + Files + Print + Eprint),
     words: &mut [u32],
     labels: &mut [u8],
-) -> Loaded
-    ensures prefix_len { IsPrefixLen result.words words.new }
-    ensures prefix_len_2 { IsPrefixLen result.labels labels.new }
+) -> Option<Loaded>
+    ensures prefix_len { IfSome result (λ loaded. IsPrefixLen loaded.words words.new) }
+    ensures prefix_len_2 { IfSome result (λ loaded. IsPrefixLen loaded.labels labels.new) }
 {
     let mut name = [0u8; NAME_BYTES];
     match name_argument(rt, 2, &mut name) {
         Ok(path) => load_from(rt, path, words, labels),
         Err(error) => {
             file_error(rt, "take the name of", "FILE", error);
-            nothing()
+            None
         }
     }
 }

@@ -1,25 +1,28 @@
 // The command letters: the label list, and the letters of the packed list.
-ghost use Rattle.std.specs.Prelude.{◌≡◌, take};
+ghost use Rattle.std.specs.Prelude.{take, IfOk};
 ghost use Rattle.io.specs.Counts.{IsPrefixLen};
 ghost use Rattle.bulonkeri.specs.Listed.{LabelIn, Listed};
 
-use crate::asked::{Asked, Command, wrong};
-use crate::layouts::{LayoutAsked, layout_from};
+use crate::asked::{Command, Misuse};
+use crate::layouts::layout_from;
 use crate::limits::{LETTER_BYTES, MOST_STATEMENTS, WORK_SUMS, WORK_WORDS};
 use crate::printing::print;
 use crate::refusals::refused;
+use answers::{Lengths, Refusal};
 use layout::Layout;
 use std::env::Env;
+use table::StatementNo;
 use table::sections::statement_section;
-use table::statements::{label_length, label_start};
-use table::{StatementNo, WrittenTwo};
+use table::statements::label_of;
 
-// The layout, if any, is the arguments from the third on; `number` is the command's.
-pub fn read_command(rt: &(impl Env + Print + Eprint), number: usize) -> Asked {
-    let LayoutAsked::Is(layout) = layout_from(rt, 3) else {
-        return wrong(rt, number);
-    };
-    Asked::For(Command::Letters(layout))
+// The layout, if any, is the arguments from the third on.
+pub fn read_command(rt: &impl Env) -> Result<Command, Misuse> {
+    match layout_from(rt, 3) {
+        Some(layout) => Ok(Command::Letters(layout)),
+        None => Err(Misuse::Expected(
+            b"letters FILE [WIDTH INDENT FIRST], each a number up to 100000",
+        )),
+    }
 }
 
 // The library's operation; what it wrote stands at the front of the outputs.
@@ -31,10 +34,10 @@ fn label_letters(
     sums: &mut [u16],
     list: &mut [u32],
     letters: &mut [u8],
-) -> WrittenTwo
-    ensures prefix_len { IsPrefixLen result.first list.new }
-    ensures prefix_len_2 { IsPrefixLen result.second letters.new }
-    ensures listed { result.number ≡ 0 → Listed words.now labels.now (take result.first list.new) }
+) -> Result<Lengths, Refusal>
+    ensures prefix_len { IfOk result (λ lengths. IsPrefixLen lengths.first list.new) }
+    ensures prefix_len_2 { IfOk result (λ lengths. IsPrefixLen lengths.second letters.new) }
+    ensures listed { IfOk result (λ lengths. Listed words.now labels.now (take lengths.first list.new)) }
 {
     order::label_letters(words, labels, layout, work, sums, list, letters)
 }
@@ -48,9 +51,7 @@ fn print_label(
 ) -> bool
     requires { LabelIn statements.now labels.now k.0 }
 {
-    let start = label_start(statements, k);
-    let end = start + label_length(statements, k);
-    if !print(rt, &labels[start..end]) {
+    if !print(rt, label_of(statements, labels, k)) {
         return false;
     }
     print(rt, b"\n")
@@ -78,18 +79,15 @@ fn show(
     list: &mut [u32],
     letters: &mut [u8],
 ) {
-    let answer = label_letters(words, labels, layout, work, sums, list, letters);
-    let number = answer.number;
-    let listed = answer.first;
-    let length = answer.second;
-    if number != 0 {
-        refused(rt, number);
-        return;
+    match label_letters(words, labels, layout, work, sums, list, letters) {
+        Ok(lengths) => {
+            print(rt, b"done: labels, a line each, then the letters\n");
+            print_labels(rt, words, labels, &list[..lengths.first]);
+            print(rt, &letters[..lengths.second]);
+            print(rt, b"\n");
+        }
+        Err(refusal) => refused(rt, refusal),
     }
-    print(rt, b"done: labels, a line each, then the letters\n");
-    print_labels(rt, words, labels, &list[..listed]);
-    print(rt, &letters[..length]);
-    print(rt, b"\n");
 }
 
 pub fn run(rt: &(impl Print + Eprint), words: &[u32], labels: &[u8], layout: Layout) {

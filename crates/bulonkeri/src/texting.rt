@@ -3,63 +3,55 @@ ghost use Rattle.layout.specs.Layouts.{layout_of};
 ghost use Rattle.answers_said.specs.Lines.{Said};
 ghost use Rattle.answers_said.specs.Texts.{text_room, text_said};
 
-use crate::arguments::argument_count;
-use crate::asked::{Asked, Command, wrong};
-use crate::layouts::{LayoutAsked, layout_from};
+use crate::arguments::{argument_count, read_argument};
+use crate::asked::{Command, Misuse};
+use crate::layouts::layout_from;
 use crate::limits::{TEXT_ANSWER_BYTES, WORK_SUMS, WORK_WORDS};
-use crate::lines::line_named;
-use crate::numbers::{Number, number_in};
+use crate::numbers::number_in;
 use crate::printing::print;
 use answers_said::texts::text_said;
 use layout::Layout;
 use std::env::Env;
 
-#[derive(Drop)]
+#[derive(Clone, Copy, Debug, PartialEq, Eq)]
 pub struct TextForm {
     pub style: u32,
     pub layout: Layout,
 }
 
-fn asked_for(style: u32, layout: Layout) -> Asked {
-    Asked::For(Command::Text(TextForm { style, layout }))
-}
-
 // A style by its name or by its number; whether a style has the number, the library says.
-fn style_in(name: &[u8]) -> Number {
-    match line_named(
-        b"compressed\nnormal\npacked\nexplicit\npacked-explicit\n",
-        name,
-    ) {
-        0 => Number::Is(0),
-        1 => Number::Is(1),
-        2 => Number::Is(2),
-        3 => Number::Is(3),
-        4 => Number::Is(4),
+fn style_in(name: &[u8]) -> Option<u32> {
+    match name {
+        b"compressed" => Some(0),
+        b"normal" => Some(1),
+        b"packed" => Some(2),
+        b"explicit" => Some(3),
+        b"packed-explicit" => Some(4),
         _ => number_in(name),
     }
 }
 
-// The third argument.
-fn style_argument(rt: &impl Env) -> Number {
-    let mut name = [0u8; 16];
-    let Ok(length) = rt.arg(3, &mut name) else {
-        return Number::None;
-    };
-    style_in(&name[..length])
+// The style, if any, is the third argument, and the layout, if any, the arguments after it.
+fn form_arguments(rt: &impl Env) -> Option<TextForm> {
+    if argument_count(rt) == 3 {
+        return Some(TextForm {
+            style: 0,
+            layout: Layout::standard(),
+        });
+    }
+    Some(TextForm {
+        style: read_argument(rt, 3, style_in)?,
+        layout: layout_from(rt, 4)?,
+    })
 }
 
-// The style, if any, is the third argument, and the layout, if any, the arguments after it; `number` is the command's.
-pub fn read_command(rt: &(impl Env + Print + Eprint), number: usize) -> Asked {
-    if argument_count(rt) == 3 {
-        return asked_for(0, Layout::standard());
+pub fn read_command(rt: &impl Env) -> Result<Command, Misuse> {
+    match form_arguments(rt) {
+        Some(form) => Ok(Command::Text(form)),
+        None => Err(Misuse::Expected(
+            b"text FILE [STYLE [WIDTH INDENT FIRST]], STYLE compressed|normal|packed|explicit|packed-explicit or its number",
+        )),
     }
-    let Number::Is(style) = style_argument(rt) else {
-        return wrong(rt, number);
-    };
-    let LayoutAsked::Is(layout) = layout_from(rt, 4) else {
-        return wrong(rt, number);
-    };
-    asked_for(style, layout)
 }
 
 // What is printed: the text, or why there is none. Answers how many bytes it is.

@@ -1,8 +1,8 @@
 // How the program is called, and how each command is.
-use crate::lines::print_line;
+use crate::asked::Misuse;
 use crate::printing::print;
 
-pub fn usage(rt: &(impl Print + Eprint)) {
+fn usage(rt: &(impl Print + Eprint)) {
     print(
         rt,
         b"usage: bulonkeri COMMAND FILE ..
@@ -31,21 +31,16 @@ up to 196608.
     );
 }
 
-// The forms of the commands, in the order of their numbers; then what stands for all of them.
-pub fn arguments_error(rt: &(impl Print + Eprint), command: usize) {
+// One line says what was expected.
+fn expected(rt: &(impl Print + Eprint), form: &[u8]) {
     print(rt, b"error: expected ");
-    print_line(
-        rt,
-        b"check FILE
-parents FILE
-distances FILE
-list FILE normal|packed|explicit|packed-explicit
-letters FILE [WIDTH INDENT FIRST], each a number up to 100000
-text FILE [STYLE [WIDTH INDENT FIRST]], STYLE compressed|normal|packed|explicit|packed-explicit or its number
-verify FILE [WIDTH INDENT FIRST], each a number up to 100000
-clean FILE NEWFILE
-check, parents, distances, list, letters, text, verify or clean
-",
-        command,
-    );
+    print(rt, form);
+    print(rt, b"\n");
+}
+
+pub fn misused(rt: &(impl Print + Eprint), misuse: Misuse) {
+    match misuse {
+        Misuse::NoCommand => usage(rt),
+        Misuse::Expected(form) => expected(rt, form),
+    }
 }

@@ -4,8 +4,8 @@ ghost use Rattle.verify.specs.Verified.{lent, verified};
 ghost use Rattle.answers_said.specs.Lines.{Said};
 ghost use Rattle.answers_said.specs.Verdicts.{verdict_lines};
 
-use crate::asked::{Asked, Command, wrong};
-use crate::layouts::{LayoutAsked, layout_from};
+use crate::asked::{Command, Misuse};
+use crate::layouts::layout_from;
 use crate::limits::{
     ENTRY_WORDS, MOST_STATEMENTS, VERIFY_CHILDREN, VERIFY_LETTERS, VERIFY_NORMAL, VERIFY_PACKED,
     VERIFY_SUMS, WORK_WORDS,
@@ -16,12 +16,14 @@ use answers_said::verdicts::verdict_said;
 use layout::Layout;
 use std::env::Env;
 
-// The layout, if any, is the arguments from the third on; `number` is the command's.
-pub fn read_command(rt: &(impl Env + Print + Eprint), number: usize) -> Asked {
-    let LayoutAsked::Is(layout) = layout_from(rt, 3) else {
-        return wrong(rt, number);
-    };
-    Asked::For(Command::Verify(layout))
+// The layout, if any, is the arguments from the third on.
+pub fn read_command(rt: &impl Env) -> Result<Command, Misuse> {
+    match layout_from(rt, 3) {
+        Some(layout) => Ok(Command::Verify(layout)),
+        None => Err(Misuse::Expected(
+            b"verify FILE [WIDTH INDENT FIRST], each a number up to 100000",
+        )),
+    }
 }
 
 // The lines of the verdict, as they are printed: answers how many bytes they are.

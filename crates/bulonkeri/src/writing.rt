@@ -7,7 +7,6 @@ use new_table::{new_header, whole_length};
 use std::io;
 use std::io::Write;
 use table::limits::HEADER_WORDS;
-use table::numbers::wide;
 use table_file::{bytes_of, encode};
 
 const CHUNK_BYTES: usize = 4096;
@@ -54,7 +53,7 @@ pub fn write_table(
 ) -> io::Result<()>
     requires { Renewable words.now entries.now children.now }
 {
-    let from = wide(words[6]);
+    let from = words[6] as usize;
     let header = new_header(words, entries, children);
     write_count(file, whole_length(words, entries, children))?;
     write_words(file, &header)?;

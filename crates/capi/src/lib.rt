@@ -3,18 +3,41 @@
 #![tactic(auto)]
 
 ghost use Rattle.std.specs.Prelude.{true, false, [], ◌∷◌, ◌≡◌};
+ghost use Rattle.answers.specs.Refused.{answer_number, answer_length, answer_first, answer_second};
 ghost use Rattle.defs.specs.Check.{table_refusal};
 ghost use Rattle.defs.specs.Outcome.{answer_one, answer_two, parents_outcome, distances_outcome, step_list_outcome, letters_outcome, text_outcome};
 ghost use Rattle.defs.specs.Decode.{decode_outcome};
 ghost use Rattle.defs.specs.Replay.{replay_outcome};
 
+use answers::{Lengths, Refusal, Written, WrittenTwo};
 use layout::Layout;
+
+// What C is told of an answer: its number, and the length written.
+fn told(answer: Result<usize, Refusal>, written: &mut u64) -> u32
+    ensures { (result ≡ answer_number answer) × (written.new ≡ answer_length answer) }
+{
+    let Written { number, length } = Written::from(answer);
+    *written = length as u64;
+    number
+}
+
+fn told_both(answer: Result<Lengths, Refusal>, first: &mut u64, second: &mut u64) -> u32
+    ensures { (result ≡ answer_number answer) × ((first.new ≡ answer_first answer) × (second.new ≡ answer_second answer)) }
+{
+    let both = WrittenTwo::from(answer);
+    *first = both.first as u64;
+    *second = both.second as u64;
+    both.number
+}
 
 #[unsafe(no_mangle)]
 pub extern "C" fn bulonkeri_check(words: &[u32], labels: &[u8]) -> u32
     ensures { result ≡ table_refusal words.now labels.now }
 {
-    table_check::check(words, labels)
+    match table_check::check(words, labels) {
+        Ok(()) => 0,
+        Err(refusal) => refusal.number(),
+    }
 }
 
 #[unsafe(no_mangle)]
@@ -28,8 +51,7 @@ pub extern "C" fn bulonkeri_parents(
         ≡ parents_outcome words.now labels.now out.old }
 {
     let answer = counts::parents::parents(words, labels, out);
-    *written = answer.length as u64;
-    answer.number
+    told(answer, written)
 }
 
 #[unsafe(no_mangle)]
@@ -43,8 +65,7 @@ pub extern "C" fn bulonkeri_distances(
         ≡ distances_outcome words.now labels.now out.old }
 {
     let answer = counts::distances::distances(words, labels, out);
-    *written = answer.length as u64;
-    answer.number
+    told(answer, written)
 }
 
 #[unsafe(no_mangle)]
@@ -60,8 +81,7 @@ pub extern "C" fn bulonkeri_packed_list(
         ≡ step_list_outcome words.now labels.now true explicit work.old out.old }
 {
     let answer = lists::packed::packed_list(words, labels, explicit, work, out);
-    *written = answer.length as u64;
-    answer.number
+    told(answer, written)
 }
 
 #[unsafe(no_mangle)]
@@ -77,8 +97,7 @@ pub extern "C" fn bulonkeri_normal_list(
         ≡ step_list_outcome words.now labels.now false explicit work.old out.old }
 {
     let answer = lists::normal::normal_list(words, labels, explicit, work, out);
-    *written = answer.length as u64;
-    answer.number
+    told(answer, written)
 }
 
 #[unsafe(no_mangle)]
@@ -106,9 +125,7 @@ pub extern "C" fn bulonkeri_letters(
         first,
     };
     let answer = order::label_letters(words, labels, layout, work, sums, list, letters);
-    *written_list = answer.first as u64;
-    *written_letters = answer.second as u64;
-    answer.number
+    told_both(answer, written_list, written_letters)
 }
 
 #[unsafe(no_mangle)]
@@ -134,8 +151,7 @@ pub extern "C" fn bulonkeri_text(
         first,
     };
     let answer = text::text(words, labels, style, layout, work, sums, out);
-    *written = answer.length as u64;
-    answer.number
+    told(answer, written)
 }
 
 #[unsafe(no_mangle)]
@@ -153,9 +169,7 @@ pub extern "C" fn bulonkeri_replay(
         ≡ replay_outcome words.now labels.now steps.now work.old entries.old children.old }
 {
     let answer = replay::replay(words, labels, steps, work, entries, children);
-    *written_entries = answer.first as u64;
-    *written_children = answer.second as u64;
-    answer.number
+    told_both(answer, written_entries, written_children)
 }
 
 #[unsafe(no_mangle)]
@@ -171,6 +185,5 @@ pub extern "C" fn bulonkeri_decode(
         ≡ decode_outcome words.now labels.now list.now letters.now out.old }
 {
     let answer = decode::decode(words, labels, list, letters, out);
-    *written = answer.length as u64;
-    answer.number
+    told(answer, written)
 }

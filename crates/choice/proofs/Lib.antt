@@ -1,4 +1,3 @@
--- Laws that speak of no function: of cells written one after the other, of the rows of totals, of the way from the last item down.
-pub mod Cells
+-- Laws that speak of no function: of the rows of totals, of the way from the last item down.
 pub mod Rows
 pub mod Walk

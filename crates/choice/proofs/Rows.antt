@@ -97,11 +97,6 @@ module _ (cost : ℕ → ℕ) (i width row : ℕ) (before after : List ℕ) (e :
             w.kept (k * width + room) (omega arith) ∙ totals k room (omega arith) m)
       ]
 
--- the rows fit
-pub row_fits : (n width i : ℕ) → i < n → i * width + width + width ≤ (n + 1) * width
-row_fits n width i h =
-    let a : suc (suc i) * width ≤ (n + 1) * width = mul-le-mul_right width (let b : suc (suc i) ≤ n + 1 = omega arith in b) in
-    omega (arith, suc-mul (suc i) width, suc-mul i width)
-
+-- where the next row begins
 pub row_more : (width i : ℕ) → (i + 1) * width ≡ i * width + width
 row_more width i = rw (add-one i) (suc-mul i width)

@@ -2,13 +2,13 @@
 -- A turn compares the totals with and without its item, as `choose` does.
 use mathlib.Core.Path.{◌≡◌, sym, ap, ◌∙◌}
 use mathlib.Core.Logic.{◌≢◌}
-use mathlib.Core.List.{List, [], ◌∷◌, ◌++◌, map, append_assoc, append-nil}
+use mathlib.Core.List.{List, [], ◌∷◌, ◌++◌, map, append_assoc}
 use Prim.Native.Nat.{ℕ, suc, ◌+◌, ◌-◌, ◌*◌, ◌≤◌, ◌<◌}
 use native.Mathlib.Nat.{suc-mul, mul-le-mul_right}
 use native.Mathlib.Decide.{dec_lt}
 use native.Mathlib.Omega.{arith}
 use lib.ListN.{length, get_or, set, drop, length-set}
-use lib.Seq.{drop-length, drop-cons, get_or-set_same, get_or-set_other, drop-set-lt}
+use lib.Seq.{drop-cons, get_or-set_same, get_or-set_other, drop-set-lt}
 use Rattle.laws.specs.Tools.{total}
 use Rattle.laws.specs.Lists.{eqb_yes, eqb_no, leb_no}
 use Rattle.defs.specs.Order.{best, rest_reaches, choose}
@@ -23,17 +23,6 @@ pub record Walked (cost : ℕ → ℕ) (n room i left start : ℕ) (sums : List 
   pub inside : start ≤ length sums
   pub totals : Totals cost i (room + 1) sums
   pub chosen : choose cost i left ++ drop start sums ≡ choose cost n room
-
-pub walked_none : (cost : ℕ → ℕ) (n room : ℕ) (sums : List ℕ) → n * (room + 1) + (room + 1) ≤ length sums → Totals cost n (room + 1) sums
-    → Walked cost n room n room (length sums) sums
-walked_none cost n room sums h t =
-    record {
-      fits = omega arith;
-      below = h;
-      inside = omega arith;
-      totals = t;
-      chosen = rw (drop-length sums) (append-nil (choose cost n room));
-    }
 
 module _ (cost : ℕ → ℕ) (n room k i left start : ℕ) (sums : List ℕ) (e : k ≡ suc i) (w : Walked cost n room k left start sums) where
   -- the cells that a turn compares

@@ -10,7 +10,7 @@ ghost use Rattle.choice.specs.Choice.{Chosen};
 use crate::totals::fill;
 
 // The places of the chosen items stand in the lent cells from `start` on, ascending. Together the items cost `total`.
-#[derive(Clone, Copy)]
+#[derive(Clone, Copy, Debug, PartialEq, Eq)]
 pub struct Choice {
     pub start: usize,
     pub total: usize,
@@ -28,9 +28,7 @@ fn put_places(costs: &[u32], block: &[u32], room: usize, sums: &mut [u16]) -> us
     let width = room + 1;
     let mut left = room;
     let mut start = sums.len();
-    let mut i = block.len();
-    while 0 < i {
-        i -= 1;
+    for i in (0..block.len()).rev() {
         let at = i * width + left;
         if sums[at + width] != sums[at] {
             start -= 1;

@@ -5,40 +5,20 @@ ghost use Rattle.defs.specs.Layout.{max_width};
 ghost use Rattle.laws.specs.Lists.{All};
 ghost use Rattle.choice.specs.Rows.{Written, Low, none, above, greater, next_total, cost_at, Totals};
 
-fn larger(a: u16, b: u16) -> u16
-    ensures { result ≡ max a b }
-{
-    if a < b { b } else { a }
-}
-
-fn smaller(a: usize, b: usize) -> usize
-    ensures { result ≡ min a b }
-{
-    if a < b { a } else { b }
-}
-
 // Without items every total is 0.
 fn first_row(sums: &mut [u16], width: usize)
     requires { width ≤ length sums.old }
     ensures { Written none 0 width sums.old sums.new }
 {
-    let mut at: usize = 0;
-    while at < width {
-        sums[at] = 0;
-        at += 1;
-    }
+    sums[..width].fill(0);
 }
 
 // Rooms below the item's cost: the totals of the row above.
 fn copy_above(sums: &mut [u16], width: usize, from: usize, to: usize)
-    requires { (width ≤ from) × ((to ≤ from + width) × (to ≤ length sums.old)) }
+    requires { (width ≤ from) × ((from ≤ to) × ((to ≤ from + width) × (to ≤ length sums.old))) }
     ensures { Written (above sums.old width) from to sums.old sums.new }
 {
-    let mut at = from;
-    while at < to {
-        sums[at] = sums[at - width];
-        at += 1;
-    }
+    sums.copy_within(from - width..to - width, from);
 }
 
 // Rooms from the item's cost on: without the item, or with it and the greatest total for the room that it leaves.
@@ -48,12 +28,10 @@ fn add_item(sums: &mut [u16], width: usize, cost: u16, from: usize, to: usize)
     ensures { Written (greater sums.old width cost) from to sums.old sums.new }
 {
     let back = width + cost as usize;
-    let mut at = from;
-    while at < to {
+    for at in from..to {
         let without = sums[at - width];
         let with_it = cost + sums[at - back];
-        sums[at] = larger(without, with_it);
-        at += 1;
+        sums[at] = without.max(with_it);
     }
 }
 
@@ -63,7 +41,7 @@ fn next_row(sums: &mut [u16], width: usize, row: usize, cost: usize)
     requires width_bound { (width ≤ max_width + 1) × Low sums.old (row - width) row }
     ensures { Written (next_total sums.old width row cost) row (row + width) sums.old sums.new }
 {
-    let below = smaller(cost, width);
+    let below = cost.min(width);
     let from = row + below;
     copy_above(sums, width, row, from);
     add_item(sums, width, below as u16, from, row + width);
@@ -76,12 +54,8 @@ pub fn fill(costs: &[u32], block: &[u32], width: usize, sums: &mut [u16])
     ensures { Totals (cost_at costs.now block.now) (length block.now) width sums.new }
 {
     first_row(sums, width);
-    let mut row = width;
-    let mut i: usize = 0;
-    while i < block.len() {
-        let item = block[i] as usize;
-        next_row(sums, width, row, costs[item] as usize);
-        row += width;
-        i += 1;
+    for (i, item) in block.iter().enumerate() {
+        let cost = costs[*item as usize] as usize;
+        next_row(sums, width, (i + 1) * width, cost);
     }
 }

@@ -11,7 +11,7 @@ use crate::places::Places;
 use layout::lines::put_word;
 use layout::{Layout, Line};
 use table::StatementNo;
-use table::statements::{label_length, label_start};
+use table::statements::label_of;
 
 fn put_label(
     layout: Layout,
@@ -26,10 +26,7 @@ fn put_label(
     ensures { Lays (λ s. put_word (layout_of layout) s (label_in statements.now labels.now k.0)) most_label line result
         out.old out.new }
 {
-    let start = label_start(statements, k);
-    let length = label_length(statements, k);
-    let end = start + length;
-    put_word(layout, line, &labels[start..end], out)
+    put_word(layout, line, label_of(statements, labels, k), out)
 }
 
 pub fn put_labels(
@@ -47,11 +44,9 @@ pub fn put_labels(
         (most_label * places.listed) line result out.old out.new }
 {
     let mut laid = line;
-    let mut i: usize = 0;
-    while i < places.listed {
-        let k = StatementNo(work[places.list + i]);
-        laid = put_label(layout, laid, statements, labels, k, out);
-        i += 1;
+    let end = places.list + places.listed;
+    for k in &work[places.list..end] {
+        laid = put_label(layout, laid, statements, labels, StatementNo(*k), out);
     }
     laid
 }

@@ -1,5 +1,5 @@
 // Where the working slice has what is written.
-#[derive(Clone, Copy)]
+#[derive(Clone, Copy, Debug, PartialEq, Eq)]
 pub struct Places {
     // The label list: its statement numbers from here on, so many of them.
     pub list: usize,

@@ -8,7 +8,8 @@ ghost use Rattle.compressed.specs.Stepped.{NearSteps, StepLaid, StepsLaid};
 use crate::places::Places;
 use layout::cuts::put_letters;
 use layout::{Layout, Line};
-use lettering::{MOST_LETTERS, STEP_WORDS};
+use lettering::MOST_LETTERS;
+use table::limits::STEP_WORDS;
 
 // The letters of the step at `at`.
 fn put_step(
@@ -35,8 +36,7 @@ pub fn put_steps(layout: Layout, line: Line, work: &[u32], places: Places, out: 
     ensures { StepsLaid (layout_of layout) places line result work.now out.old out.new }
 {
     let mut laid = line;
-    let mut i: usize = 0;
-    while i < places.many {
+    for i in 0..places.many {
         laid = put_step(
             layout,
             laid,
@@ -45,7 +45,6 @@ pub fn put_steps(layout: Layout, line: Line, work: &[u32], places: Places, out: 
             places,
             out,
         );
-        i += 1;
     }
     laid
 }

@@ -11,10 +11,6 @@ use layout::Layout;
 use layout::cuts::open_letters;
 use layout::lines::{begin, close, put_word};
 
-const OPEN: [u8; 1] = *b"(";
-
-const CLOSE: [u8; 1] = *b")";
-
 // Answers where the text ends.
 pub fn compressed_text(
     layout: Layout,
@@ -29,9 +25,9 @@ pub fn compressed_text(
     ensures { TextWrote (layout_of layout) statements.now labels.now places result work.now out.old out.new }
 {
     let begun = begin(layout, out);
-    let opened = put_word(layout, begun, &OPEN, out);
+    let opened = put_word(layout, begun, b"(", out);
     let listed = put_labels(layout, opened, statements, labels, work, places, out);
-    let closed = put_word(layout, listed, &CLOSE, out);
+    let closed = put_word(layout, listed, b")", out);
     let started = open_letters(layout, closed, out);
     let lettered = put_steps(layout, started, work, places, out);
     let ended = close(layout, lettered, out);

@@ -5,11 +5,12 @@ use mathlib.Core.Logic.{◌≢◌}
 use mathlib.Core.List.{List, [], ◌∷◌}
 use Prim.Native.Nat.{ℕ, zero, suc, ◌+◌, ◌-◌, ◌≤◌, ◌<◌, min}
 use native.Mathlib.Omega.{arith}
-use lib.ListN.{length, get_or, set, replicate, length-set, length-replicate, get_or-replicate}
-use lib.Seq.{set-get_or, get_or-set_other}
+use lib.ListN.{length, get_or, drop, set, replicate, length-set, length-replicate, get_or-replicate}
+use native.Mathlib.Numerals.{add-one}
+use Rattle.std.proofs.lemmas.List.{drop_all}
+use lib.Seq.{drop-cons, set-get_or, get_or-set_other}
 use Rattle.defs.specs.Graph.{Graph}
 use Rattle.defs.specs.Counts.{unreached, lower, descend, distances}
-use Rattle.slices.specs.Parts.{up_to, up_to_none, up_to_next}
 
 -- inside a list nothing depends on what is read past its end
 pub get_D_inside : (xs : List ℕ) (i a b : ℕ) → i < length xs → get_or xs i a ≡ get_or xs i b
@@ -19,15 +20,14 @@ get_D_inside (x ∷ xs) (suc i) a b l = get_D_inside xs i a b (omega arith)
 
 -- ---- the children of one entry: what is still to be lowered gives the same
 
-pub lower_next : (d i end : ℕ) (cs ds : List ℕ) (c v : ℕ) → i < end → end ≤ length cs → c ≡ get_or cs i 0 → c < length ds → v ≡ min d (get_or ds c 0)
-    → lower d (up_to (i + 1) end cs) (set ds c v) ≡ lower d (up_to i end cs) ds
+pub lower_next : (d i : ℕ) (ks ds : List ℕ) → i < length ks → get_or ks i 0 < length ds
+    → lower d (drop (i + 1) ks) (set ds (get_or ks i 0) (min d (get_or ds (get_or ks i 0) 0))) ≡ lower d (drop i ks) ds
 unfolding lower
-lower_next d i end cs ds c v h l at m is =
-    rw (up_to_next i end cs h l, ← at, is, get_D_inside ds c 0 unreached m)
+lower_next d i ks ds l m = rw (add-one, drop-cons ks i 0 l, get_D_inside ds (get_or ks i 0) 0 unreached m)
 
-pub lower_done : (d i end : ℕ) (cs ds : List ℕ) → end ≤ i → lower d (up_to i end cs) ds ≡ ds
+pub lower_done : (d i : ℕ) (ks ds : List ℕ) → length ks ≤ i → lower d (drop i ks) ds ≡ ds
 unfolding lower
-lower_done d i end cs ds h = rw (up_to_none end i cs h)
+lower_done d i ks ds h = rw (drop_all i ks h)
 
 -- ---- the entries, highest first: what is still to come gives the same
 

@@ -6,12 +6,12 @@ use Prim.Native.Nat.{ℕ, suc, ◌+◌, ◌≤◌, ◌<◌, min}
 use native.Mathlib.Numerals.{add-one}
 use native.Mathlib.Omega.{arith}
 use lib.ListN.{length, get_or, drop, set, get_or-append}
+use Rattle.std.proofs.lemmas.List.{drop_all}
 use lib.Seq.{append_snoc, drop-cons, set_at}
 use Rattle.laws.specs.Tools.{over}
 use Rattle.laws.specs.Sums.{tot}
 use Rattle.defs.specs.Graph.{Graph}
 use Rattle.defs.specs.Steps.{normal_count}
-use Rattle.slices.specs.Parts.{up_to, up_to_none, up_to_next}
 use Rattle.counts.specs.Sizes.{size_cap, capped_size, capped_sizes, sizes_length, size_at}
 
 pub size_small : (g : Graph) (e : ℕ) → capped_size g e ≤ size_cap
@@ -20,15 +20,13 @@ size_small g e = omega arith
 
 -- ---- the children of one entry: what is counted, with what is still to come
 
-pub size_next : (g : Graph) (i end : ℕ) (cs : List ℕ) (c size more next : ℕ) → i < end → end ≤ length cs → c ≡ get_or cs i 0
-    → more ≡ capped_size g c → next ≡ min size_cap (size + more)
-    → min size_cap (next + tot (normal_count g) (up_to (i + 1) end cs)) ≡ min size_cap (size + tot (normal_count g) (up_to i end cs))
+pub size_next : (g : Graph) (i : ℕ) (ks : List ℕ) (size more : ℕ) → i < length ks → more ≡ capped_size g (get_or ks i 0)
+    → min size_cap (min size_cap (size + more) + tot (normal_count g) (drop (i + 1) ks)) ≡ min size_cap (size + tot (normal_count g) (drop i ks))
 unfolding capped_size
-size_next g i end cs c size more next h l at known sum =
-    rw (up_to_next i end cs h l, ← at) (omega arith)
+size_next g i ks size more l known = rw (add-one i, drop-cons ks i 0 l) (omega arith)
 
-pub size_done : (g : Graph) (i end : ℕ) (cs : List ℕ) (size : ℕ) → end ≤ i → size ≤ size_cap → min size_cap (size + tot (normal_count g) (up_to i end cs)) ≡ size
-size_done g i end cs size h l = rw (up_to_none end i cs h) (omega arith)
+pub size_done : (g : Graph) (i : ℕ) (ks : List ℕ) (size : ℕ) → length ks ≤ i → size ≤ size_cap → min size_cap (size + tot (normal_count g) (drop i ks)) ≡ size
+size_done g i ks size h l = rw (drop_all i ks h) (omega arith)
 
 -- ---- the entries, one by one
 

@@ -1,13 +1,11 @@
 // Parents of an entry: child references to it over ALL entries, repeats and unreachable parents included.
 ghost use Rattle.std.specs.Prelude.{[], ◌≡◌, length};
+ghost use Rattle.answers.specs.Refused.{answer_number, answer_length};
 ghost use Rattle.defs.specs.Outcome.{answer_one, parents_outcome};
 ghost use Rattle.counts.specs.Parents.{Within, times_each};
 
-use slices::fill::fill;
-use table::Written;
-use table::entries::child;
+use answers::Refusal;
 use table::header::read_header;
-use table::numbers::wide;
 use table::sections::child_section;
 use table_check::check;
 
@@ -16,35 +14,21 @@ pub fn count_parents(children: &[u32], counts: &mut [u32])
     requires { Within children.now (length counts.old) }
     ensures { counts.new ≡ times_each children.now (length counts.old) }
 {
-    fill(counts, 0);
-    let mut i: usize = 0;
-    while i < children.len() {
-        let e = child(children, i);
-        let at = e.0 as usize;
-        counts[at] += 1;
-        i += 1;
+    counts.fill(0);
+    for e in children {
+        counts[*e as usize] += 1;
     }
 }
 
 // The parents of every entry of a table, n of them: tests 1 to 7 and 15.
-pub fn parents(words: &[u32], labels: &[u8], out: &mut [u32]) -> Written
-    ensures { answer_one result.number result.length [] out.new ≡ parents_outcome words.now labels.now out.old }
+pub fn parents(words: &[u32], labels: &[u8], out: &mut [u32]) -> Result<usize, Refusal>
+    ensures { answer_one (answer_number result) (answer_length result) [] out.new ≡ parents_outcome words.now labels.now out.old }
 {
-    let number = check(words, labels);
-    if number != 0 {
-        return Written { number, length: 0 };
-    }
-    let header = read_header(words);
-    let n = wide(header.entries);
+    check(words, labels)?;
+    let n = read_header(words).entries as usize;
     if out.len() < n {
-        return Written {
-            number: 15,
-            length: 0,
-        };
+        return Err(Refusal::ShortOutput);
     }
     count_parents(child_section(words), &mut out[..n]);
-    Written {
-        number: 0,
-        length: n,
-    }
+    Ok(n)
 }

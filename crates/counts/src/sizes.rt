@@ -7,7 +7,7 @@ ghost use Rattle.defs.specs.Sections.{EntriesOk};
 ghost use Rattle.counts.specs.Sizes.{size_cap, capped_size, capped_sizes, ChildrenSized};
 
 use table::EntryNo;
-use table::entries::{child, child_count, child_start};
+use table::entries::children_of;
 
 // One more than the most steps of a normal list.
 pub const SIZE_CAP: u32 = 1000001;
@@ -16,8 +16,7 @@ fn add_capped(a: u32, b: u32) -> u32
     requires { (a ≤ size_cap) × (b ≤ size_cap) }
     ensures { result ≡ min size_cap (a + b) }
 {
-    let sum = a + b;
-    if SIZE_CAP < sum { SIZE_CAP } else { sum }
+    SIZE_CAP.min(a + b)
 }
 
 // The entry's own step, and those of its children.
@@ -25,14 +24,10 @@ fn size_of(entries: &[u32], children: &[u32], sizes: &[u32], e: EntryNo) -> u32
     requires { ChildrenSized entries.now children.now sizes.now e.0 }
     ensures { result ≡ capped_size (graph_in entries.now children.now) e.0 }
 {
-    let mut i = child_start(entries, e);
-    let end = i + child_count(entries, e);
+    let kids = children_of(entries, children, e);
     let mut size: u32 = 1;
-    while i < end {
-        let c = child(children, i);
-        let at = c.0 as usize;
-        size = add_capped(size, sizes[at]);
-        i += 1;
+    for c in kids {
+        size = add_capped(size, sizes[*c as usize]);
     }
     size
 }
@@ -43,10 +38,8 @@ pub fn count_normal(entries: &[u32], children: &[u32], n: usize, sizes: &mut [u3
     requires n_in_bounds { n ≤ length sizes.old }
     ensures { sizes.new ≡ over (capped_sizes (graph_in entries.now children.now) n) sizes.old }
 {
-    let mut e: usize = 0;
-    while e < n {
+    for e in 0..n {
         let size = size_of(entries, children, &sizes[..], EntryNo(e as u32));
         sizes[e] = size;
-        e += 1;
     }
 }

@@ -1,13 +1,13 @@
--- Laws of refusal 16: which item is wrong, the loop over the items, and that a list which repeats none of s numbers is not longer than s.
--- The loop asks of the whole list what it asks of the part still to come.
+-- Laws of refusal 16: which item is wrong, and that a list which repeats none of s numbers is not longer than s.
+-- A list of numbers below s that has each once has at most s of them.
 use mathlib.Core.Path.{◌≡◌}
-use mathlib.Core.Bool.{Bool, true, false, not, ◌||◌}
+use mathlib.Core.Bool.{true, false, not}
 use mathlib.Core.List.{List, [], ◌∷◌}
-use Prim.Native.Nat.{ℕ, ◌+◌, ◌<◌, ◌≤◌}
+use Prim.Native.Nat.{ℕ, ◌<◌, ◌≤◌}
 use native.Mathlib.Omega.{arith}
 use lib.Dec.{ltb}
-use lib.ListN.{length, get_or, drop, drop_of_length-le}
-use borrow.Author.Tests.{lt-ltb, le-ltb, ltb-true, not-false}
+use lib.ListN.{length, get_or}
+use borrow.Author.Tests.{lt-ltb, ltb-true, not-false}
 use Rattle.laws.specs.Tools.{any, member, repeats, count}
 use Rattle.laws.specs.Lists.{All, all_get_d, or_no, boole}
 use Rattle.laws.specs.Sums.{bit_cases, count_no}
@@ -15,7 +15,6 @@ use Rattle.laws.specs.Counting.{none_at, once_below}
 use Rattle.defs.specs.Table.{statements, mandatory}
 use Rattle.defs.specs.Decode.{bad_labels}
 use Rattle.theorem.specs.Goal.{TheoremOk}
-use Rattle.theorem.proofs.Searches.{drop_next}
 use Rattle.theorem.proofs.Goals.{list_short}
 use Rattle.decode.specs.Labels.{bad_item, bad_list}
 use Rattle.decode.specs.Decoding.{Short}
@@ -23,24 +22,9 @@ use Rattle.decode.specs.Decoding.{Short}
 -- ---- one item
 
 module _ (s : ℕ) (thm : List ℕ) (k : ℕ) where
-  pub item_high : s ≤ k → bad_item s thm k ≡ true
-  unfolding bad_item
-  item_high h = rw (le-ltb k s h)
-
   pub item_next : k < s → bad_item s thm k ≡ member k thm
   unfolding bad_item
   item_next h = rw (lt-ltb k s h)
-
--- ---- the loop
-
-module _ (test : ℕ → Bool) (list : List ℕ) (i : ℕ) where
-  pub any_next : (hit : Bool) → i < length list → test (get_or list i 0) ≡ hit → any test (drop i list) ≡ (hit || any test (drop (i + 1) list))
-  unfolding any
-  any_next hit h e = rw (drop_next list i h, e)
-
-  pub any_end : length list ≤ i → any test (drop i list) ≡ false
-  unfolding any
-  any_end h = rw (drop_of_length-le list h)
 
 -- ---- the whole list
 

@@ -14,9 +14,7 @@ use Rattle.defs.specs.Decode.{Reading, one_letter, or_refuse, all_letters}
 use Rattle.letters.proofs.Numbers.{capped_zero, zero_capped}
 use Rattle.theorem.proofs.Searches.{drop_next}
 use Rattle.decode.specs.declared.reading.Decoder.{Decoder}
-use Rattle.decode.specs.declared.reading.Turn.{Turn}
-use Rattle.decode.specs.declared.reading.Turn.TheVariants as turn
-use Rattle.decode.specs.declared.reading.Decoded.TheVariants as decoded
+use Rattle.std.specs.Prelude as code
 use Rattle.decode.specs.Decoding.{max_size, Ready, Keeps, Came, Wrote, beginning}
 
 -- i letters are read, and the code's state is that of the reading
@@ -28,7 +26,7 @@ pub record Read (thm list letters : List ℕ) (i : ℕ) (d : Decoder) (before af
 
 -- ---- answers of all letters
 
-wrote_refused : (o : Option (List Step)) (before after : List ℕ) → o ≡ none → Wrote o decoded.Refused before after
+wrote_refused : (o : Option (List Step)) (before after : List ℕ) → o ≡ none → Wrote o code.None before after
 unfolding Wrote
 wrote_refused o before after e = rw e tt
 
@@ -63,35 +61,35 @@ module _ (thm list letters : List ℕ) (before : List ℕ) where
     next_letter o h e = p.rest ∙ rw (drop_next letters i h, e)
 
     more : (o : Option Reading) (next : Decoder) (end : List ℕ) → i < length letters → one_letter thm list p.reading (get_or letters i 0) ≡ o
-        → Came o (turn.Goes next) (d.steps + 1) before end → Read thm list letters (i + 1) next before end
+        → Came o (code.Some next) (d.steps + 1) before end → Read thm list letters (i + 1) next before end
     unfolding Came or_refuse
     more none next end h e w = absurd w
     more (some reading) next end h e w =
         record { reading = reading; keeps = w.0; few = omega (arith, w.1, p.few); rest = next_letter (some reading) h e }
 
     refused : (o : Option Reading) (most : ℕ) (end : List ℕ) → i < length letters → one_letter thm list p.reading (get_or letters i 0) ≡ o
-        → Came o turn.Refused most before end → Wrote (all_letters thm list letters beginning) decoded.Refused before end
+        → Came o code.None most before end → Wrote (all_letters thm list letters beginning) code.None before end
     unfolding Came or_refuse
     refused none most end h e w = wrote_refused _ before end (next_letter none h e)
     refused (some reading) most end h e w = absurd w
 
-    pub read_more : (t : Turn) (next : Decoder) (end : List ℕ) → i < length letters → t ≡ turn.Goes next
+    pub read_more : (t : code.Option Decoder) (next : Decoder) (end : List ℕ) → i < length letters → t ≡ code.Some next
         → Came (one_letter thm list p.reading (get_or letters i 0)) t (d.steps + 1) before end → Read thm list letters (i + 1) next before end
     read_more t next end h e w = more _ next end h refl (rw e at w)
 
-    pub read_refused : (t : Turn) (most : ℕ) (end : List ℕ) → i < length letters → t ≡ turn.Refused
-        → Came (one_letter thm list p.reading (get_or letters i 0)) t most before end → Wrote (all_letters thm list letters beginning) decoded.Refused before end
+    pub read_refused : (t : code.Option Decoder) (most : ℕ) (end : List ℕ) → i < length letters → t ≡ code.None
+        → Came (one_letter thm list p.reading (get_or letters i 0)) t most before end → Wrote (all_letters thm list letters beginning) code.None before end
     read_refused t most end h e w = refused _ most end h refl (rw e at w)
 
     -- ---- no letter left
 
-    pub read_inside : length letters ≤ i → (d.pending ≡ 0 → ⊥) → Wrote (all_letters thm list letters beginning) decoded.Refused before after
+    pub read_inside : length letters ≤ i → (d.pending ≡ 0 → ⊥) → Wrote (all_letters thm list letters beginning) code.None before after
     unfolding all_letters
     read_inside h z =
         wrote_refused _ before after
         (p.rest ∙ rw (drop_of_length-le letters h, ne_eqb p.reading.pending 0 (λ e. z (p.keeps.pending_is ∙ zero_capped p.reading.pending e))))
 
-    pub read_all : length letters ≤ i → d.pending ≡ 0 → Wrote (all_letters thm list letters beginning) (decoded.Steps d.steps) before after
+    pub read_all : length letters ≤ i → d.pending ≡ 0 → Wrote (all_letters thm list letters beginning) (code.Some d.steps) before after
     unfolding all_letters Wrote
     read_all h z =
         let e : all_letters thm list letters beginning ≡ some p.reading.out =

@@ -14,26 +14,23 @@ use Rattle.defs.specs.Table.{max_word}
 use Rattle.defs.specs.Steps.{Step}
 use Rattle.defs.specs.Decode.{Reading, step_named, mark_last, finish_code, lead_code, mark_step}
 use Rattle.letters.specs.Numbers.{capped, number_of}
-use Rattle.letters.specs.declared.number.Number.{Number}
-use Rattle.letters.specs.declared.number.Number.TheVariants.{Of, TooLarge}
 use Rattle.letters.specs.Ranges.{letter_of}
 use Rattle.letters.specs.declared.letter.Letter.{Letter}
 use Rattle.letters.proofs.Ranges.{Said, letter_said}
 use Rattle.letters.proofs.Numbers.{Told, number_told, capped_number, capped_lead}
 use Rattle.decode.specs.declared.reading.Decoder.{Decoder}
-use Rattle.decode.specs.declared.reading.Turn.{Turn}
-use Rattle.decode.specs.declared.reading.Turn.TheVariants as turn
+use Rattle.std.specs.Prelude as code
 use Rattle.decode.specs.Decoding.{StepPut, MarkPut, Keeps, Came}
 use Rattle.decode.proofs.StepLaws.{one_more, mark_length, last_marked}
 
 -- ---- answers of one letter
 
-pub came_refused : (o : Option Reading) (most : ℕ) (before after : List ℕ) → o ≡ none → Came o turn.Refused most before after
+pub came_refused : (o : Option Reading) (most : ℕ) (before after : List ℕ) → o ≡ none → Came o code.None most before after
 unfolding Came
 came_refused o most before after e = rw e tt
 
-came_goes : (o : Option Reading) (reading : Reading) (r : Turn) (d : Decoder) (most : ℕ) (before after : List ℕ)
-    → o ≡ some reading → r ≡ turn.Goes d → Keeps reading d before after → d.steps ≤ most → Came o r most before after
+came_goes : (o : Option Reading) (reading : Reading) (r : code.Option Decoder) (d : Decoder) (most : ℕ) (before after : List ℕ)
+    → o ≡ some reading → r ≡ code.Some d → Keeps reading d before after → d.steps ≤ most → Came o r most before after
 unfolding Came
 came_goes o reading r d most before after e f k h = rw (e, f) (k, h)
 
@@ -53,7 +50,7 @@ letter_is thm list reading x r l e m = rw (sym m ∙ e) (letter_said thm list re
 abbrev number_read : Reading → ℕ → ℕ
 number_read reading x = reading.pending * 20 + (x - 65)
 
-number_kept : (reading : Reading) (x pending digit : ℕ) (r : Number) → pending ≡ capped reading.pending → x - 65 ≡ digit
+number_kept : (reading : Reading) (x pending digit : ℕ) (r : code.Option ℕ) → pending ≡ capped reading.pending → x - 65 ≡ digit
     → r ≡ number_of (pending * 20 + digit) → Told (number_read reading x) r
 number_kept reading x pending digit r p e n =
     let same : r ≡ number_of (number_read reading x) = n ∙ rw (p, ← e) (capped_number reading.pending (x - 65)) in
@@ -90,32 +87,32 @@ keeps_step reading d t before after end k l put =
     }
 
 module _ (thm list : List ℕ) (reading : Reading) (x : ℕ) (d : Decoder) (digit : ℕ) (before after : List ℕ) (e : x - 65 ≡ digit) (k : Keeps reading d before after)
-    (r : Number) (n : r ≡ number_of (d.pending * 20 + digit)) where
-  told : (s : Number) → r ≡ s → Told (number_read reading x) s
+    (r : code.Option ℕ) (n : r ≡ number_of (d.pending * 20 + digit)) where
+  told : (s : code.Option ℕ) → r ≡ s → Told (number_read reading x) s
   told s t = rw t at (number_kept reading x d.pending digit r k.pending_is e n)
 
-  pub too_large : (most : ℕ) (end : List ℕ) → r ≡ TooLarge → Came (finish_code thm list reading x) turn.Refused most before end
-  too_large most end t = came_refused _ most before end (finish_large thm list reading x (told TooLarge t))
+  pub too_large : (most : ℕ) (end : List ℕ) → r ≡ code.None → Came (finish_code thm list reading x) code.None most before end
+  too_large most end t = came_refused _ most before end (finish_large thm list reading x (told code.None t))
 
-  pub names_nothing : (v most : ℕ) (end : List ℕ) → r ≡ Of v → length thm + length list + d.given ≤ v
-      → Came (finish_code thm list reading x) turn.Refused most before end
-  names_nothing v most end t h = came_refused _ most before end (finish_high thm list reading x (omega (arith, (told (Of v) t).0, k.given_is)))
+  pub names_nothing : (v most : ℕ) (end : List ℕ) → r ≡ code.Some v → length thm + length list + d.given ≤ v
+      → Came (finish_code thm list reading x) code.None most before end
+  names_nothing v most end t h = came_refused _ most before end (finish_high thm list reading x (omega (arith, (told (code.Some v) t).0, k.given_is)))
 
-  pub names_step : (next : Turn) (v : ℕ) (t : Step) (end : List ℕ) → next ≡ turn.Goes (decoder 0 true d.given (d.steps + 1)) → r ≡ Of v
+  pub names_step : (next : code.Option Decoder) (v : ℕ) (t : Step) (end : List ℕ) → next ≡ code.Some (decoder 0 true d.given (d.steps + 1)) → r ≡ code.Some v
       → v < length thm + length list + d.given → t ≡ step_named thm list v → length end ≡ length after → StepPut t d.steps after end
       → Came (finish_code thm list reading x) next (d.steps + 1) before end
   names_step next v t end f s h named l put =
-      let is-v : v ≡ number_read reading x = (told (Of v) s).0 in
+      let is-v : v ≡ number_read reading x = (told (code.Some v) s).0 in
       came_goes _ _ next _ _ before end
-      (finish_named thm list reading x t (omega (arith, k.given_is)) (told (Of v) s).1 (rw is-v at named))
+      (finish_named thm list reading x t (omega (arith, k.given_is)) (told (code.Some v) s).1 (rw is-v at named))
       f
       (keeps_step reading d t before after end k l put)
       (omega arith)
 
 -- ---- a leading letter
 
-pub leads : (reading : Reading) (x : ℕ) (d : Decoder) (digit : ℕ) (before after : List ℕ) (next : Turn) (pending : ℕ) → x - 84 ≡ digit → Keeps reading d before after
-    → next ≡ turn.Goes (decoder pending false d.given d.steps) → pending ≡ capped (d.pending * 5 + digit)
+pub leads : (reading : Reading) (x : ℕ) (d : Decoder) (digit : ℕ) (before after : List ℕ) (next : code.Option Decoder) (pending : ℕ) → x - 84 ≡ digit → Keeps reading d before after
+    → next ≡ code.Some (decoder pending false d.given d.steps) → pending ≡ capped (d.pending * 5 + digit)
     → Came (lead_code reading x) next (d.steps + 1) before after
 unfolding lead_code
 leads reading x d digit before after next pending e k f p =
@@ -134,11 +131,11 @@ leads reading x d digit before after next pending e k f p =
 -- ---- a mark
 
 module _ (reading : Reading) (d : Decoder) (before after : List ℕ) (k : Keeps reading d before after) where
-  pub not_finished : (most : ℕ) (end : List ℕ) → d.finished ≡ false → Came (mark_step reading) turn.Refused most before end
+  pub not_finished : (most : ℕ) (end : List ℕ) → d.finished ≡ false → Came (mark_step reading) code.None most before end
   unfolding mark_step
   not_finished most end f = came_refused _ most before end (rw (sym k.finished_is ∙ f))
 
-  pub no_more_marks : (most : ℕ) (end : List ℕ) → d.given ≡ max_word → Came (mark_step reading) turn.Refused most before end
+  pub no_more_marks : (most : ℕ) (end : List ℕ) → d.given ≡ max_word → Came (mark_step reading) code.None most before end
   unfolding mark_step
   no_more_marks most end g =
       came_refused _ most before end (rw (le-ltb reading.given max_word (omega (arith, k.given_is))) (boole reading.finished (λ t. rw t) (λ t. rw t)))
@@ -147,7 +144,7 @@ module _ (reading : Reading) (d : Decoder) (before after : List ℕ) (k : Keeps 
   unfolding mark_step
   mark_read f g = rw (sym k.finished_is ∙ f, lt-ltb reading.given max_word (omega (arith, k.given_is)))
 
-  pub marks_last : (end : List ℕ) (next : Turn) (mark n : ℕ) → next ≡ turn.Goes (decoder 0 false mark d.steps) → d.finished ≡ true → d.given < max_word
+  pub marks_last : (end : List ℕ) (next : code.Option Decoder) (mark n : ℕ) → next ≡ code.Some (decoder 0 false mark d.steps) → d.finished ≡ true → d.given < max_word
       → mark ≡ d.given + 1 → n ≡ d.steps - 1 → length end ≡ length after → MarkPut mark n after end
       → Came (mark_step reading) next (d.steps + 1) before end
   marks_last end next mark n goes f g m last l put =

@@ -1,4 +1,5 @@
 -- What the code keeps of a reading of crate defs, and what its answers say of one.
+use Rattle.std.specs.Prelude as code
 use Rattle.std.specs.Prelude.{◌≡◌, true, false, List, [], ◌++◌, ℕ, ◌+◌, ◌*◌, ◌<◌, ◌≤◌, length, set, take, drop}
 use Rattle.std.proofs.Math.Option.{Option, none, some}
 use Rattle.laws.specs.Tools.{over}
@@ -8,10 +9,6 @@ use Rattle.defs.specs.Decode.{Reading}
 use Rattle.letters.specs.Numbers.{capped}
 use Rattle.decode.specs.declared.steps.NamedStep.{NamedStep}
 use Rattle.decode.specs.declared.reading.Decoder.{Decoder}
-use Rattle.decode.specs.declared.reading.Turn.{Turn}
-use Rattle.decode.specs.declared.reading.Turn.TheVariants as turn
-use Rattle.decode.specs.declared.reading.Decoded.{Decoded}
-use Rattle.decode.specs.declared.reading.Decoded.TheVariants as decoded
 
 -- the largest number that can index
 abbrev pub max_size : ℕ
@@ -56,18 +53,18 @@ pub record Keeps (reading : Reading) (d : Decoder) (before after : List ℕ) : T
 -- ---- answers
 
 -- after one letter: both refuse, or the code's state is that of the next reading, with so many steps at the most
-unfoldable pub Came : Option Reading → Turn → ℕ → List ℕ → List ℕ → Type 0
-Came none turn.Refused most before after = Unit {0}
-Came none (turn.Goes d) most before after = ⊥
-Came (some reading) turn.Refused most before after = ⊥
-Came (some reading) (turn.Goes d) most before after = Keeps reading d before after × (d.steps ≤ most)
+unfoldable pub Came : Option Reading → code.Option Decoder → ℕ → List ℕ → List ℕ → Type 0
+Came none code.None most before after = Unit {0}
+Came none (code.Some d) most before after = ⊥
+Came (some reading) code.None most before after = ⊥
+Came (some reading) (code.Some d) most before after = Keeps reading d before after × (d.steps ≤ most)
 
 -- after all: both refuse, or the steps are counted, and stored where the slice has room for them
-unfoldable pub Wrote : Option (List Step) → Decoded → List ℕ → List ℕ → Type 0
-Wrote none decoded.Refused before after = Unit {0}
-Wrote none (decoded.Steps n) before after = ⊥
-Wrote (some ts) decoded.Refused before after = ⊥
-Wrote (some ts) (decoded.Steps n) before after = (n ≡ length ts) × (step_size * n ≤ length before → after ≡ over (flat ts) before)
+unfoldable pub Wrote : Option (List Step) → code.Option ℕ → List ℕ → List ℕ → Type 0
+Wrote none code.None before after = Unit {0}
+Wrote none (code.Some n) before after = ⊥
+Wrote (some ts) code.None before after = ⊥
+Wrote (some ts) (code.Some n) before after = (n ≡ length ts) × (step_size * n ≤ length before → after ≡ over (flat ts) before)
 
 -- the reading before the first letter
 abbrev pub beginning : Reading

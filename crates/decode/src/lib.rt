@@ -7,12 +7,13 @@ mod reading; // reading.rt: the letters, one by one
 mod steps; // steps.rt: the steps that numbers name, and their words
 
 ghost use Rattle.std.specs.Prelude.{[], ◌≡◌};
+ghost use Rattle.answers.specs.Refused.{answer_number, answer_length};
 ghost use Rattle.defs.specs.Outcome.{answer_one};
 ghost use Rattle.defs.specs.Decode.{decode_outcome};
 
 use answer::write_steps;
+use answers::Refusal;
 use labels::list_wrong;
-use table::Written;
 use table::header::read_header;
 use table::sections::statement_section;
 use table_check::check;
@@ -25,26 +26,17 @@ pub fn decode(
     list: &[u32],
     letters: &[u8],
     out: &mut [u32],
-) -> Written
-    ensures { answer_one result.number result.length [] out.new
+) -> Result<usize, Refusal>
+    ensures { answer_one (answer_number result) (answer_length result) [] out.new
         ≡ decode_outcome words.now labels.now list.now letters.now out.old }
 {
-    let number = check(words, labels);
-    if number != 0 {
-        return Written { number, length: 0 };
-    }
+    check(words, labels)?;
     let hypotheses = theorem_list(words);
     if mixed(statement_section(words), hypotheses) {
-        return Written {
-            number: 10,
-            length: 0,
-        };
+        return Err(Refusal::Mixed);
     }
     if list_wrong(read_header(words).statements, hypotheses, list) {
-        return Written {
-            number: 16,
-            length: 0,
-        };
+        return Err(Refusal::BadList);
     }
     write_steps(hypotheses, list, letters, out)
 }

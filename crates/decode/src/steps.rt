@@ -5,17 +5,17 @@ ghost use Rattle.defs.specs.Table.{max_word};
 ghost use Rattle.defs.specs.Decode.{step_named};
 ghost use Rattle.decode.specs.Decoding.{step_of, StepPut, MarkPut};
 
-// A step is five u32: reference, mark, statement, parent, hypothesis index.
-pub const STEP_WORDS: usize = 5;
+use table::limits::STEP_WORDS;
 
 // A step that has no mark yet. The list is not explicit, so its last two words are 0.
-#[derive(Clone, Copy)]
+#[derive(Clone, Copy, Debug, PartialEq, Eq)]
 pub struct NamedStep {
     pub reference: u32,
     pub statement: u32,
 }
 
 // Numbers name first the theorem's list, then the label list, then the marks.
+#[tactic(auto, using(defs::proofs::LetterLaws::named_thm, defs::proofs::LetterLaws::named_label, crate::proofs::StepLaws::named_mark))]
 pub fn step_named(hypotheses: &[u32], list: &[u32], number: u32) -> NamedStep
     requires { number < length hypotheses.now + length list.now + max_word }
     ensures { step_of result ≡ step_named hypotheses.now list.now number }
@@ -40,6 +40,7 @@ pub fn step_named(hypotheses: &[u32], list: &[u32], number: u32) -> NamedStep
     }
 }
 
+#[tactic(auto, using(crate::proofs::StepLaws::five_stores))]
 pub fn put_step(step: NamedStep, n: usize, out: &mut [u32])
     ensures { StepPut (step_of step) n out.old out.new }
 {

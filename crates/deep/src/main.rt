@@ -4,6 +4,7 @@
 
 ghost use Rattle.std.specs.Prelude.{◌+◌, ◌≤◌};
 
+use answers::Written;
 use std::io;
 
 const ENTRIES: u32 = 8192;
@@ -19,9 +20,7 @@ const HEAD: [u32; 26] = [
 ];
 
 fn put_head(words: &mut [u32; 32793]) {
-    for (i, word) in HEAD.iter().enumerate() {
-        words[i] = *word;
-    }
+    words[..FIRST_ENTRY].copy_from_slice(&HEAD);
 }
 
 // Entry 0 is `a`, which has no words but 0; each later one is `b` of the one before.
@@ -49,8 +48,7 @@ fn show(rt: &impl Print, words: &[u32; 32793]) -> io::Result<()> {
     let mut work = [0u32; 131096];
     let mut out = [0u32; 40960];
     let answer = lists::packed::packed_list(words, b"abc", true, &mut work, &mut out);
-    let number = answer.number;
-    let length = answer.length;
+    let Written { number, length } = Written::from(answer);
     print!(rt; "packed explicit answer {number}, length {length}: first")?;
     print_step(rt, &out, 0)?;
     print!(rt; ", last")?;

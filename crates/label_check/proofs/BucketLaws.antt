@@ -1,12 +1,11 @@
 -- The mark of a bucket holds the print of each label in it, or says that there are several. A label whose print the mark of its bucket
 -- does not hold is therefore unlike every label before it. Assumes nothing.
-use Prim.Native.Nat.{ℕ, ◌+◌, ◌*◌, ◌%◌, ◌≤◌, ◌<◌}
+use Prim.Native.Nat.{ℕ, ◌+◌, ◌≤◌, ◌<◌}
 use mathlib.Core.Bool.{false}
 use mathlib.Core.List.{List}
 use mathlib.Core.Logic.{◌⊎◌, inl, inr, ⊎_elim}
 use mathlib.Core.Path.{◌≡◌, refl, sym, ap, ◌∙◌}
 use native.Mathlib.Decide.{ℕ_discrete}
-use native.Mathlib.Numerals.{add-one}
 use native.Mathlib.Omega.{arith}
 use borrow.Author.Count.{below_none, below_more}
 use lib.Dec.{eqb}
@@ -15,18 +14,10 @@ use lib.Seq.{get_or-set_same, get_or-set_other}
 use Rattle.laws.specs.Lists.{boole, eqb_yes, eqb_no}
 use Rattle.laws.specs.Places.{same_decides}
 use Rattle.laws.specs.Tools.{same}
-use Rattle.label_check.specs.Buckets.{buckets, hash_to, fall_of, mixed, mark_after, first_compared}
+use Rattle.label_check.specs.Buckets.{buckets, fall_of, mixed, mark_after, first_compared}
 use Rattle.label_check.specs.declared.buckets.Fall.{Fall}
 
--- ---- the hash
-
-pub hash_none : (label : List ℕ) → 0 ≡ hash_to label 0
-unfolding hash_to
-hash_none label = refl
-
-pub hash_next : (label : List ℕ) (k hash : ℕ) → hash ≡ hash_to label k → (hash * 131 + get_or label k 0) % 4294967296 ≡ hash_to label (k + 1)
-unfolding hash_to
-hash_next label k hash e = rw (add-one k, e)
+-- ---- where a label falls
 
 pub bucket_below : (label : List ℕ) → (fall_of label).bucket < buckets
 unfolding fall_of
@@ -43,24 +34,24 @@ abbrev pub Holds : ℕ → ℕ → Type 0
 Holds mark print = (mark ≡ print) ⊎ (mark ≡ mixed)
 
 module _ (mark print : ℕ) where
-  pub mark_empty : mark ≡ 0 → print ≡ mark_after mark print
+  mark_empty : mark ≡ 0 → print ≡ mark_after mark print
   unfolding mark_after
   mark_empty e = rw (eqb_yes mark 0 e)
 
-  pub mark_same : mark ≡ print → print ≡ mark_after mark print
+  mark_same : mark ≡ print → print ≡ mark_after mark print
   unfolding mark_after
   mark_same e = boole (eqb mark 0) (λ t. rw t) (λ t. rw (t, eqb_yes mark print e))
 
-  pub mark_mixed : ¬ (mark ≡ 0) → ¬ (mark ≡ print) → mixed ≡ mark_after mark print
+  mark_mixed : ¬ (mark ≡ 0) → ¬ (mark ≡ print) → mixed ≡ mark_after mark print
   unfolding mark_after
   mark_mixed e f = rw (eqb_no mark 0 e, eqb_no mark print f)
 
-  pub all_compared : (k : ℕ) → Holds mark print → 0 ≡ first_compared mark print k
+  all_compared : (k : ℕ) → Holds mark print → 0 ≡ first_compared mark print k
   unfolding first_compared
   all_compared k (inl e) = rw (eqb_yes mark print e)
   all_compared k (inr e) = boole (eqb mark print) (λ t. rw t) (λ t. rw (t, eqb_yes mark mixed e))
 
-  pub none_compared : (k : ℕ) → ¬ (mark ≡ mixed) → ¬ (mark ≡ print) → k ≡ first_compared mark print k
+  none_compared : (k : ℕ) → ¬ (mark ≡ mixed) → ¬ (mark ≡ print) → k ≡ first_compared mark print k
   unfolding first_compared
   none_compared k e f = rw (eqb_no mark mixed e, eqb_no mark print f)
 

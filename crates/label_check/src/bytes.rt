@@ -1,28 +1,19 @@
 // The bytes that a label may have.
 ghost use Rattle.std.specs.Prelude.{◌≡◌};
-ghost use Rattle.laws.specs.Tools.{all};
+ghost use Rattle.std.specs.List.{list_all};
 ghost use Rattle.defs.specs.Check.{label_byte};
 
 // Letter, digit, `.`, `-`, `_`.
+#[tactic(auto, unfolding(defs::specs::Check::label_byte))]
 fn label_byte(byte: u8) -> bool
     ensures { result ≡ label_byte byte }
 {
-    match byte {
-        b'A'..=b'Z' | b'a'..=b'z' | b'0'..=b'9' | b'.' | b'-' | b'_' => true,
-        _ => false,
-    }
+    matches!(byte, b'A'..=b'Z' | b'a'..=b'z' | b'0'..=b'9' | b'.' | b'-' | b'_')
 }
 
 // Every byte is a label byte.
 pub fn bytes_right(labels: &[u8]) -> bool
-    ensures { result ≡ all label_byte labels.now }
+    ensures { result ≡ list_all label_byte labels.now }
 {
-    let mut i: usize = 0;
-    while i < labels.len() {
-        if !label_byte(labels[i]) {
-            return false;
-        }
-        i += 1;
-    }
-    true
+    labels.iter().all(|&byte| label_byte(byte))
 }

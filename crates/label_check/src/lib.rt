@@ -20,8 +20,5 @@ pub fn labels_wrong(statements: &[u32], count: u32, labels: &[u8]) -> bool
     ensures { result ≡ (some_below (label_wrong statements.now labels.now) count
         || some_below (label_again statements.now labels.now) count) }
 {
-    if !bytes_right(labels) {
-        return true;
-    }
-    label_repeated(statements, count, labels)
+    !bytes_right(labels) || label_repeated(statements, count, labels)
 }

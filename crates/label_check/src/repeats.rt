@@ -7,7 +7,7 @@ ghost use Rattle.label_check.specs.Right.{LabelsRight};
 use crate::buckets::{BUCKETS, fall_of, first_compared, mark_after};
 use crate::equal::has_label;
 use table::StatementNo;
-use table::statements::{label_length, label_start};
+use table::statements::label_of;
 
 // Two statements have equal labels: pairs are searched, and both loops are left at the first hit. The later label of a pair is cut
 // once for each outer turn. Where its bucket shows that no label before it is equal, it is compared with none.
@@ -17,24 +17,18 @@ pub fn label_repeated(statements: &[u32], count: u32, labels: &[u8]) -> bool
 {
     let mut marks = [0u8; BUCKETS];
     let mut found = false;
-    let mut k: u32 = 0;
-    'search: while k < count {
-        let start = label_start(statements, StatementNo(k));
-        let end = start + label_length(statements, StatementNo(k));
-        let label = &labels[start..end];
+    'search: for k in 0..count {
+        let label = label_of(statements, labels, StatementNo(k));
         let fall = fall_of(label);
         let bucket = fall.bucket;
         let mark = marks[bucket];
-        let mut j = first_compared(mark, fall.print, k);
-        while j < k {
+        for j in first_compared(mark, fall.print, k)..k {
             if has_label(statements, labels, StatementNo(j), label) {
                 found = true;
                 break 'search;
             }
-            j += 1;
         }
         marks[bucket] = mark_after(mark, fall.print);
-        k += 1;
     }
     found
 }

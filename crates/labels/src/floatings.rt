@@ -4,21 +4,14 @@ ghost use Rattle.laws.specs.Tools.{keep};
 ghost use Rattle.defs.specs.Table.{kind_in};
 ghost use Rattle.theorem.specs.Goal.{InStatements};
 
-use table::StatementNo;
-use table::statements::{FLOATING, kind};
+use table::statements::kind_of;
+use table::{Kind, StatementNo};
 
 pub fn count_floatings(statements: &[u32], list: &[u32]) -> usize
     requires { InStatements statements.now list.now }
     ensures { result ≡ length (keep (λ k. eqb (kind_in statements.now k) 1) list.now) }
 {
-    let mut count: usize = 0;
-    let mut i: usize = 0;
-    while i < list.len() {
-        let k = kind(statements, StatementNo(list[i]));
-        i += 1;
-        if k == FLOATING {
-            count += 1;
-        }
-    }
-    count
+    list.iter()
+        .filter(|k| kind_of(statements, StatementNo(**k)) == Some(Kind::Floating))
+        .count()
 }

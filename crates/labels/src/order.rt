@@ -9,7 +9,6 @@ use crate::weights::weigh;
 use blocks::order::label_order;
 use listing::numbers::number_labels;
 use table::header::read_header;
-use table::numbers::wide;
 use table::sections::statement_section;
 use theorem::hypotheses::theorem_list;
 
@@ -18,11 +17,9 @@ fn name_statements(work: &mut [u32], at: usize, order: usize, many: usize)
     requires { NamesReady at order many work.old }
     ensures { Named at order many work.old work.new }
 {
-    let mut i: usize = 0;
-    while i < many {
-        let index = wide(work[order + i]);
+    for i in 0..many {
+        let index = work[order + i] as usize;
         work[order + i] = work[at + index];
-        i += 1;
     }
 }
 
@@ -38,7 +35,7 @@ pub fn order_labels(
     requires { OrderReady words.now from many width (length sums.old) work.old }
     ensures { Ordered words.now from many width result work.old work.new }
 {
-    let s = wide(read_header(words).statements);
+    let s = read_header(words).statements as usize;
     let statements = statement_section(words);
     let theorem = theorem_list(words);
     let floatings = count_floatings(statements, theorem);

@@ -1,25 +1,18 @@
-// What the compressed form asks of the listed statements. Each search leaves at the first hit.
+// What the compressed form asks of the listed statements.
 ghost use Rattle.std.specs.Prelude.{◌≡◌, eqb, ltb};
 ghost use Rattle.laws.specs.Tools.{any};
 ghost use Rattle.defs.specs.Table.{kind_in, label_length_in};
 ghost use Rattle.theorem.specs.Goal.{InStatements};
 
-use table::StatementNo;
-use table::statements::{ESSENTIAL, kind, label_length};
+use table::statements::{kind_of, label_length};
+use table::{Kind, StatementNo};
 
 // 11: a reachable essential not in the theorem's list. The listed statements are those reachable and not in that list.
 pub fn has_essential(statements: &[u32], list: &[u32]) -> bool
     requires { InStatements statements.now list.now }
     ensures { result ≡ any (λ k. eqb (kind_in statements.now k) 2) list.now }
 {
-    let mut i: usize = 0;
-    while i < list.len() {
-        if kind(statements, StatementNo(list[i])) == ESSENTIAL {
-            return true;
-        }
-        i += 1;
-    }
-    false
+    list.iter().any(|k| kind_of(statements, StatementNo(*k)) == Some(Kind::Essential))
 }
 
 // 12: a label to be listed longer than line width minus indent, which is `most`.
@@ -27,12 +20,6 @@ pub fn has_longer(statements: &[u32], list: &[u32], most: usize) -> bool
     requires { InStatements statements.now list.now }
     ensures { result ≡ any (λ k. ltb most (label_length_in statements.now k)) list.now }
 {
-    let mut i: usize = 0;
-    while i < list.len() {
-        if most < label_length(statements, StatementNo(list[i])) {
-            return true;
-        }
-        i += 1;
-    }
-    false
+    list.iter()
+        .any(|k| most < label_length(statements, StatementNo(*k)))
 }

@@ -2,7 +2,6 @@
 ghost use Rattle.labels.specs.Weights.{WeighReady, Weighed};
 
 use table::StatementNo;
-use table::numbers::wide;
 use table::statements::label_length;
 
 // The listed statements stand from `at` on, the use counts of all statements from `uses` on. By index, the costs go to `to`, and
@@ -11,13 +10,11 @@ pub fn weigh(statements: &[u32], work: &mut [u32], at: usize, many: usize, uses:
     requires { WeighReady statements.now at many uses to work.old }
     ensures { Weighed statements.now at many uses to work.old work.new }
 {
-    let mut i: usize = 0;
-    while i < many {
+    for i in 0..many {
         let k = work[at + i];
         let length = label_length(statements, StatementNo(k));
-        let used = work[uses + wide(k)];
+        let used = work[uses + k as usize];
         work[to + i] = length as u32 + 1;
         work[to + many + i] = used;
-        i += 1;
     }
 }

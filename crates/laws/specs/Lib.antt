@@ -8,3 +8,5 @@ pub mod Sorting
 pub mod Puts
 pub mod Decides
 pub mod Places
+pub mod Library
+pub mod Parts

@@ -3,9 +3,11 @@
 use mathlib.Core.Path.{◌≡◌, sym}
 use mathlib.Core.Bool.{true, false}
 use Prim.Native.Nat.{◌+◌, ◌≤◌, ◌<◌}
-use lib.Dec.{leb→le, le→leb, ltb→lt, lt→ltb}
+use borrow.Author.Tests.{leb-false}
+use native.Mathlib.Omega.{arith}
+use lib.Dec.{leb, leb→le, le→leb, ltb→lt, lt→ltb}
 use Rattle.laws.specs.Tools.{all_of}
-use Rattle.laws.specs.Lists.{boole, passed, not_no}
+use Rattle.laws.specs.Lists.{boole, passed, not_no, T_of}
 use Rattle.laws.specs.Below.{each, all_of_each}
 use Rattle.defs.specs.Layout.{Layout, max_width, layout_rules, bad8}
 
@@ -30,3 +32,11 @@ accepted l b =
 
 pub refused : (l : Layout) → (Bounds l → ⊥) → true ≡ bad8 l
 refused l outside = boole (bad8 l) sym (λ ok. absurd (outside (bounds l ok)))
+
+-- within the bounds on width and indent the first position decides
+pub last_decides : (l : Layout) → l.width ≤ max_width → l.indent + 2 ≤ l.width → leb l.indent l.first ≡ bad8 l
+last_decides l wide narrow =
+    boole (leb l.indent l.first)
+    (λ yes. (let h : l.indent ≤ l.first = leb→le _ _ (T_of yes) in rw yes (refused l (λ b. omega (arith, b)))))
+    (λ no. (let h : l.first < l.indent = leb-false _ _ no in
+    rw no (accepted l (record { wide = wide; some = omega arith; narrow = narrow; inside = h }))))

@@ -4,11 +4,10 @@ use mathlib.Core.Path.{◌≡◌, refl, ap}
 use mathlib.Core.List.{List, [], ◌∷◌, ◌++◌}
 use Prim.Native.Nat.{ℕ, ◌+◌, ◌-◌, ◌≤◌, ◌<◌}
 use native.Mathlib.Decide.{dec_lt}
-use native.Mathlib.Numerals.{add-one}
 use native.Mathlib.Omega.{arith}
 use borrow.Author.Tests.{lt-ltb, le-ltb}
-use lib.ListN.{length, get_or, take, length-replicate}
-use lib.Seq.{append_snoc, take-suc}
+use lib.ListN.{length, length-replicate}
+use lib.Seq.{append_snoc}
 use Rattle.laws.specs.Puts.{Put}
 use Rattle.defs.specs.Bytes.{space, newline, dollar, dot}
 use Rattle.defs.specs.Layout.{Layout, Line, spaces, begin, put_word, put_words}
@@ -110,7 +109,3 @@ pub words_more : (l : Layout) (s : Line) (words : List (List ℕ)) (word : List 
 unfolding put_words
 words_more l s [] word = refl
 words_more l s (first ∷ words) word = words_more l (put_word l s first) words word
-
-pub words_next : (l : Layout) (s : Line) (words : List (List ℕ)) (i : ℕ) → i < length words
-    → put_words l s (take (i + 1) words) ≡ put_word l (put_words l s (take i words)) (get_or words i [])
-words_next l s words i h = rw (add-one i, take-suc words i [] h) (words_more l s (take i words) (get_or words i []))

@@ -3,7 +3,7 @@ ghost use Rattle.std.specs.Prelude.{◌≡◌, false, ◌-◌};
 ghost use Rattle.defs.specs.Layout.{bad8, line_room, standard};
 ghost use Rattle.layout.specs.Layouts.{layout_of};
 
-#[derive(Clone, Copy)]
+#[derive(Clone, Copy, Debug, PartialEq, Eq)]
 pub struct Layout {
     pub width: u32,
     pub indent: u32,
@@ -36,19 +36,10 @@ impl Layout {
     pub fn is_bad(self) -> bool
         ensures { result ≡ bad8 (layout_of self) }
     {
-        if Self::MAX_WIDTH < self.width {
-            return true;
-        }
-        if self.width < 2 {
-            return true;
-        }
-        if self.width - 2 < self.indent {
-            return true;
-        }
-        if self.indent <= self.first {
-            return true;
-        }
-        false
+        Self::MAX_WIDTH < self.width
+            || self.width < 2
+            || self.width - 2 < self.indent
+            || self.indent <= self.first
     }
 
     // W = line width − indent + 1.
@@ -63,7 +54,6 @@ impl Layout {
     pub fn left(self, at: usize) -> usize
         ensures { result ≡ self.width - at }
     {
-        let width = self.width as usize;
-        if at < width { width - at } else { 0 }
+        (self.width as usize).saturating_sub(at)
     }
 }

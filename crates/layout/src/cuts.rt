@@ -44,10 +44,8 @@ pub fn put_letters(layout: Layout, line: Line, letters: &[u8], out: &mut [u8]) -
         out.old out.new }
 {
     let mut laid = line;
-    let mut i: usize = 0;
-    while i < letters.len() {
-        laid = put_letter(layout, laid, letters[i], out);
-        i += 1;
+    for letter in letters {
+        laid = put_letter(layout, laid, *letter, out);
     }
     laid
 }

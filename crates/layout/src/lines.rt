@@ -8,7 +8,7 @@ ghost use Rattle.layout.specs.Laid.{Near, longest, most_before, opened, Wrote, L
 use crate::bounds::Layout;
 use crate::bytes::{put_byte, put_piece, put_spaces};
 
-#[derive(Clone, Copy)]
+#[derive(Clone, Copy, Debug, PartialEq, Eq)]
 pub struct Line {
     // The position p.
     pub at: usize,

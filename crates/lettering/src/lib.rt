@@ -5,14 +5,11 @@ ghost use Rattle.std.specs.Prelude.{◌+◌, ◌<◌};
 ghost use Rattle.laws.specs.Puts.{farthest};
 ghost use Rattle.lettering.specs.Said.{most_step, StepReady, NumberIs, StepWrote, ListReady, ListWrote};
 
-use letters::code::{put_code, put_letter};
-use table::numbers::wide;
-
-// A step is five u32: reference, mark, statement, and two that only explicit lists use.
-pub const STEP_WORDS: usize = 5;
+use letters::code::{Code, put_code, put_letter};
+use table::limits::STEP_WORDS;
 
 // No step has more letters: those of its number, and a `Z`.
-pub const MOST_LETTERS: usize = 14;
+pub const MOST_LETTERS: usize = Code::MOST + 1;
 
 // The number of the step at `at`. Those of statements stand from `numbers` on, plus 1; a reference adds both lengths and its mark − 1.
 fn step_number(work: &[u32], at: usize, numbers: usize, both: u32) -> u32
@@ -23,7 +20,7 @@ fn step_number(work: &[u32], at: usize, numbers: usize, both: u32) -> u32
     if reference != 0 {
         return both + (reference - 1);
     }
-    let statement = wide(work[at + 2]);
+    let statement = work[at + 2] as usize;
     work[numbers + statement] - 1
 }
 
@@ -61,10 +58,8 @@ pub fn put_steps(
     ensures { ListWrote steps many numbers both result work.now out.old out.new }
 {
     let mut end: usize = 0;
-    let mut i: usize = 0;
-    while i < many {
+    for i in 0..many {
         end = put_step(work, steps + STEP_WORDS * i, numbers, both, end, out);
-        i += 1;
     }
     end
 }

@@ -6,8 +6,7 @@ use native.Mathlib.Omega.{arith}
 use lib.Dec.{leb}
 use borrow.Author.Tests.{le-leb, lt-leb, leb-true, leb-false}
 use Rattle.laws.specs.Lists.{boole}
-use Rattle.letters.specs.declared.number.Number.{Number}
-use Rattle.letters.specs.declared.number.Number.TheVariants.{Of, TooLarge}
+use Rattle.std.specs.Prelude.{Option, Some, None}
 use Rattle.defs.specs.Table.{max_word}
 use Rattle.letters.specs.Numbers.{cap, capped, number_of}
 
@@ -33,18 +32,18 @@ capped_lead pending digit = omega arith
 
 -- ---- the number
 
-pub number_fits : (n : ℕ) → n ≤ max_word → number_of n ≡ Of n
+pub number_fits : (n : ℕ) → n ≤ max_word → number_of n ≡ Some n
 unfolding number_of
 number_fits n h = simp (le-leb n max_word h)
 
-pub number_passes : (n : ℕ) → max_word < n → number_of n ≡ TooLarge
+pub number_passes : (n : ℕ) → max_word < n → number_of n ≡ None
 unfolding number_of
 number_passes n h = simp (lt-leb n max_word h)
 
 -- and back: what an answer tells of the number
-abbrev pub Told : ℕ → Number → Type 0
-Told n (Of m) = (m ≡ n) × (n ≤ max_word)
-Told n TooLarge = max_word < n
+abbrev pub Told : ℕ → Option ℕ → Type 0
+Told n (Some m) = (m ≡ n) × (n ≤ max_word)
+Told n None = max_word < n
 
 pub number_told : (n : ℕ) → Told n (number_of n)
 unfolding number_of

@@ -4,8 +4,11 @@ ghost use Rattle.defs.specs.Letters.{code};
 ghost use Rattle.laws.specs.Puts.{farthest, Put, Placed};
 ghost use Rattle.letters.specs.Most.{most_letters};
 
-// Its letters stand at the end of the array, from `start` on.
-#[derive(Clone, Copy)]
+use layout::bytes::put_byte;
+
+// The letters of a number stand at the end of the array, from `start` on.
+// As it is: (a) no heap: a code owns its letters, so its array has room for the most letters, and `start` says where they begin.
+#[derive(Clone, Copy, Debug, PartialEq, Eq)]
 pub struct Code {
     pub letters: [u8; Code::MOST],
     pub start: usize,
@@ -55,20 +58,16 @@ pub fn code_of(v: u32) -> Code
     Code { letters, start }
 }
 
-// Writes one letter at `at` where it fits, and changes nothing where it does not. The end is the same either way.
+// One letter is put as any byte is.
 pub fn put_letter(letter: u8, at: usize, out: &mut [u8]) -> usize
     requires { at < farthest }
     ensures { Put (letter ∷ []) at result out.old out.new }
 {
-    let end = at + 1;
-    if out.len() <= at {
-        return end;
-    }
-    out[at] = letter;
-    end
+    put_byte(letter, at, out)
 }
 
-// The same for the letters of v. Most numbers have one letter, so that case goes first.
+// Writes the letters of v from `at` on where all fit, and changes nothing where they do not. The end is the same either way.
+// Most numbers have one letter, so that case goes first.
 pub fn put_code(v: u32, at: usize, out: &mut [u8]) -> usize
     requires { at < farthest }
     ensures { Put (code v) at result out.old out.new }

@@ -2,31 +2,46 @@
 -- The kept ones go behind the list, so that the list stays as it was.
 use mathlib.Core.Path.{◌≡◌, refl, sym, ap, ◌∙◌, subst}
 use mathlib.Core.Logic.{◌≢◌, ◌⊎◌, inl, inr}
-use mathlib.Core.Bool.{Bool, true, false, not}
+use mathlib.Core.Bool.{Bool, true, false, not, beq}
 use mathlib.Core.List.{List, [], ◌∷◌, ◌++◌, append-nil}
-use Prim.Native.Nat.{ℕ, ◌+◌, ◌≤◌, ◌<◌}
+use Prim.Native.Nat.{ℕ, zero, suc, ◌+◌, ◌≤◌, ◌<◌}
 use native.Mathlib.Omega.{arith}
 use native.Mathlib.Numerals.{add-one}
 use native.Mathlib.Decide.{ℕ_discrete}
 use lib.ListN.{length, get_or, set, take, length-append, length-set, get_or-append}
 use lib.Seq.{take-suc, take-length, get_or-set_same, get_or-set_other, get_or-append_seam}
 use lib.Dec.{eqb}
-use Rattle.laws.specs.Tools.{keep}
-use Rattle.laws.specs.Lists.{boole, all_at, keep_append}
+use Rattle.std.specs.Option.{option_eq}
+use Rattle.std.specs.Prelude.{Option, Some}
+use Rattle.laws.specs.Tools.{pick, keep}
+use Rattle.laws.specs.Lists.{boole, all_at, eqb_no, keep_append}
 use Rattle.defs.specs.Table.{word, kind_in}
+use Rattle.table.specs.Kinds.{kind_said}
+use Rattle.table.specs.declared.kinds.Kind.{Kind}
+use Rattle.table.specs.declared.kinds.Kind.TheVariants.{Assertion}
+use Rattle.table.specs.contracts.kinds.KindPartialEq.TheImpl.{eq-value}
 use Rattle.table.specs.Records.{StatementIn}
 use Rattle.listing.specs.Arrays.{OnlyIn}
 use Rattle.listing.specs.Kinds.{wanted, OneReady, OneKept, Holds, ListReady, Kept}
 
--- ---- the test
+-- ---- the test, as the code has it
 
-pub wants_assertions : (ss : List ℕ) (k : ℕ) (a : Bool) → a ≡ true → eqb (kind_in ss k) 0 ≡ wanted ss a k
-unfolding wanted
-wants_assertions ss k a e = rw e
+is_assertion : (k : ℕ) → option_eq eq-value.it (kind_said k) (Some Assertion) ≡ eqb k 0
+is_assertion zero = refl
+is_assertion (suc zero) = refl
+is_assertion (suc (suc zero)) = refl
+is_assertion (suc (suc (suc k))) = sym (eqb_no (suc (suc (suc k))) 0 (λ e. omega arith))
 
-pub wants_others : (ss : List ℕ) (k : ℕ) (a : Bool) → a ≡ false → not (eqb (kind_in ss k) 0) ≡ wanted ss a k
+picked : (t a : Bool) → pick a t (not t) ≡ beq t a
+picked true true = refl
+picked true false = refl
+picked false true = refl
+picked false false = refl
+
+pub wanted_is : (a : Bool) (ss : List ℕ) (k : ℕ) (kind : Option Kind) (is : Bool) → kind ≡ kind_said (kind_in ss k) → is ≡ option_eq eq-value.it kind (Some Assertion)
+    → wanted ss a k ≡ beq is a
 unfolding wanted
-wants_others ss k a e = rw e
+wanted_is a ss k kind is e f = rw (f, e, is_assertion (kind_in ss k)) (picked (eqb (kind_in ss k) 0) a)
 
 -- ---- after the first i of them
 
@@ -125,5 +140,6 @@ one_ready ss a at many to i end ws₀ ws r k l =
     record {
       at_in = omega (arith, r.apart, r.room, k.same_length);
       end_in = omega (arith, r.room, k.high, k.same_length);
-      inside = subst (StatementIn ss) (sym (k.only (at + i) (inl (omega (arith, r.apart))) ∙ r.holds i (omega (arith, r.as_many)))) (all_at (StatementIn ss) r.list 0 r.inside i (omega (arith, r.as_many)));
+      inside = subst (StatementIn ss) (sym (k.only (at + i) (inl (omega (arith, r.apart))) ∙ r.holds i (omega (arith, r.as_many))))
+          (all_at (StatementIn ss) r.list 0 r.inside i (omega (arith, r.as_many)));
     }

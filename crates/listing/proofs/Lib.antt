@@ -3,5 +3,4 @@ pub mod Lemmas
 pub mod Turns
 pub mod KindLaws
 pub mod NumberLaws
-pub mod ClearLaws
 pub mod ListLaws

@@ -181,7 +181,8 @@ module _ (ss thm : List ℕ) (steps many from s : ℕ) (w0 : List ℕ) (r : AllR
             unfolding Listed AllUsed Kept
             all_listed = (
               arrays,
-              only_then from (from + 4 * s) middle (middle + listed) from (from + 5 * s) w0 w4 w5 (omega arith) (omega arith) (omega (arith, middle_is)) (omega (arith, middle_is, halves ss fs, mine.as_many, listed_few))
+              only_then from (from + 4 * s) middle (middle + listed) from (from + 5 * s) w0 w4 w5 (omega arith) (omega arith) (omega (arith, middle_is))
+                  (omega (arith, middle_is, halves ss fs, mine.as_many, listed_few))
                   (only_then from (from + 3 * s) (from + 3 * s) (from + 3 * s + listed) from (from + 4 * s) w0 w3 w4 (omega arith) (omega arith) (omega arith) (omega (arith, listed_few))
                   (only_then from (from + 2 * s) (from + s) (from + 3 * s) from (from + 3 * s) w0 w2 w3 (omega arith) (omega arith) (omega arith) (omega arith)
                   (only_then from (from + 2 * s) from (from + s) from (from + 2 * s) w0 w1 w2 (omega arith) (omega arith) (omega arith) (omega arith) c.only n.only)

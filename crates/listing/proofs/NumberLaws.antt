@@ -93,7 +93,8 @@ module _ (base s from : ℕ) (list : List ℕ) (i : ℕ) (ws₀ ws : List ℕ) (
                   ∙ get_or-set_same ws (from + x) v 0 (omega (arith, n.same_length, room, number_in))
                   ∙ sym (ap (λ (xs : List ℕ). number_over base xs k old) more ∙ ap (λ (j : ℕ). number_over base (take i list ++ (x ∷ [])) j old) e
                   ∙ number_new base (take i list) x old (not_before list i l once) ∙ omega (arith, length-take-le i list (omega arith)))
-              | no e ↦ get_or-set_other ws (from + x) (from + k) v 0 (omega arith) ∙ n.number k m ∙ sym (ap (λ (xs : List ℕ). number_over base xs k old) more ∙ number_other base (take i list) x k old e)
+              | no e ↦ get_or-set_other ws (from + x) (from + k) v 0 (omega arith) ∙ n.number k m
+                  ∙ sym (ap (λ (xs : List ℕ). number_over base xs k old) more ∙ number_other base (take i list) x k old e)
             ];
         only = λ j m. get_or-set_other ws (from + x) j v 0 (apart j m) ∙ n.only j m;
       }

@@ -128,7 +128,8 @@ step_ready steps many s from i listed ws₀ ws r u l z =
     let rest = normal_stmts (drop (i + 1) r.ts) in
     let whole : normal_stmts r.ts ≡ normal_stmts (take (i + 1) r.ts) ++ rest =
     ap normal_stmts (sym (take-append-drop (i + 1) r.ts)) ∙ stmts_append (take (i + 1) r.ts) (drop (i + 1) r.ts) in
-    let low = all_split (λ k. k < s) xs (word ws (steps + step_size * i + 2) ∷ []) (subst (All (λ k. k < s)) next (all_split (λ k. k < s) (normal_stmts (take (i + 1) r.ts)) rest (subst (All (λ k. k < s)) whole r.below)).0) in
+    let low = all_split (λ k. k < s) xs (word ws (steps + step_size * i + 2) ∷ [])
+    (subst (All (λ k. k < s)) next (all_split (λ k. k < s) (normal_stmts (take (i + 1) r.ts)) rest (subst (All (λ k. k < s)) whole r.below)).0) in
     record {
       room = omega (arith, r.room, u.same_length);
       inside = low.1.0;

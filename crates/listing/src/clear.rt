@@ -1,11 +1,9 @@
 // Words of the working slice made zero.
 ghost use Rattle.listing.specs.Clear.{Inside, Cleared};
 
-use slices::fill::fill;
-
 pub fn clear(work: &mut [u32], from: usize, to: usize)
     requires { Inside from to work.old }
     ensures { Cleared from to work.old work.new }
 {
-    fill(&mut work[from..to], 0);
+    work[from..to].fill(0);
 }

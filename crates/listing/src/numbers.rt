@@ -2,18 +2,13 @@
 ghost use Rattle.listing.specs.Labels.{LabelsReady, LabelsNumbered};
 ghost use Rattle.listing.specs.Numbers.{Plain, Numbered};
 
-use table::numbers::wide;
-
 // The numbers of the s statements stand from `from` on, and are zero before.
 pub fn number_theorem(list: &[u32], work: &mut [u32], s: usize, from: usize)
     requires { Plain s from list.now work.old }
     ensures { Numbered s from list.now work.old work.new }
 {
-    let mut i: u32 = 0;
-    while (i as usize) < list.len() {
-        let at = wide(list[i as usize]);
-        i += 1;
-        work[from + at] = i;
+    for (i, k) in list.iter().enumerate() {
+        work[from + *k as usize] = i as u32 + 1;
     }
 }
 
@@ -22,12 +17,8 @@ pub fn number_labels(work: &mut [u32], base: u32, at: usize, many: usize, s: usi
     requires { LabelsReady base at many s from work.old }
     ensures { LabelsNumbered base at many s from work.old work.new }
 {
-    let mut number = base;
-    let mut i: usize = 0;
-    while i < many {
-        let k = wide(work[at + i]);
-        number += 1;
-        work[from + k] = number;
-        i += 1;
+    for i in 0..many {
+        let k = work[at + i] as usize;
+        work[from + k] = base + i as u32 + 1;
     }
 }

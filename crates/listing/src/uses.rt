@@ -2,10 +2,7 @@
 // is not there), how often each other statement is used, and those by first appearance.
 ghost use Rattle.listing.specs.Arrays.{Ready, OneMore, StepReady, StepUsed, StepsReady, AllUsed};
 
-use table::numbers::wide;
-
-// A step is five u32: reference, mark, statement, and two that only explicit lists use.
-const STEP_WORDS: usize = 5;
+use table::limits::STEP_WORDS;
 
 // One normal step. Answers how many different statements there are, with this one.
 fn use_statement(work: &mut [u32], s: usize, from: usize, many: usize, statement: usize) -> usize
@@ -33,7 +30,7 @@ fn use_step(work: &mut [u32], s: usize, from: usize, many: usize, at: usize) -> 
     if work[at] != 0 {
         return many;
     }
-    let statement = wide(work[at + 2]);
+    let statement = work[at + 2] as usize;
     use_statement(work, s, from, many, statement)
 }
 
@@ -43,10 +40,8 @@ pub fn use_steps(work: &mut [u32], steps: usize, many: usize, s: usize, from: us
     ensures { AllUsed steps many s from result work.old work.new }
 {
     let mut listed: usize = 0;
-    let mut i: usize = 0;
-    while i < many {
+    for i in 0..many {
         listed = use_step(work, s, from, listed, steps + STEP_WORDS * i);
-        i += 1;
     }
     listed
 }

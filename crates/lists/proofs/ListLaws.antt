@@ -5,7 +5,7 @@ use mathlib.Core.Bool.{Bool, true, false}
 use mathlib.Core.List.{List, [], ◌∷◌, ◌++◌, append-nil, append_assoc}
 use Prim.Native.Nat.{ℕ, ◌+◌, ◌*◌, ◌-◌, ◌≤◌, ◌<◌}
 use native.Mathlib.Omega.{arith}
-use lib.ListN.{length, drop, take, length-append}
+use lib.ListN.{length, drop, length-append}
 use borrow.Author.Tests.{lt-ltb, le-ltb}
 use lib.Seq.{take-append_seam, drop-append-add, drop-drop}
 use Rattle.laws.specs.Tools.{part, over}
@@ -59,8 +59,8 @@ module _ (w b : List ℕ) (ok : table_refusal w b ≡ 0) (explicit : Bool) (q : 
       }
 
 -- copied to the front of the output
-pub copied : (source out out' steps : List ℕ) → source ≡ steps → out' ≡ take 0 out ++ source ++ drop (0 + length source) out → out' ≡ over steps out
-copied source out out' steps is end = let z : 0 + length source ≡ length source = omega arith in end ∙ rw (z, is)
+pub copied : (len : ℕ) (source out steps : List ℕ) → source ≡ steps → len ≡ length steps → source ++ drop len out ≡ over steps out
+copied len source out steps is long = rw (is, long)
 
 -- ---- the normal list, step by step
 

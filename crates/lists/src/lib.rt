@@ -1,6 +1,6 @@
 // The two step lists of document 01, as public operations.
 #![tactic(auto)]
 
-pub mod answers;
-pub mod normal;
-pub mod packed;
+mod ending; // ending.rt: the working slice left zero
+pub mod normal; // normal.rt: the normal list
+pub mod packed; // packed.rt: the packed list

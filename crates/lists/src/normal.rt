@@ -3,23 +3,25 @@ ghost use Rattle.std.specs.Prelude.{◌≡◌, [], ◌∷◌, false, ◌*◌, �
 ghost use Rattle.laws.specs.Tools.{over};
 ghost use Rattle.defs.specs.Graph.{graph_in};
 ghost use Rattle.defs.specs.Steps.{flat, normal_steps};
+ghost use Rattle.answers.specs.Refused.{answer_number, answer_length};
 ghost use Rattle.defs.specs.Outcome.{answer_one, step_list_outcome};
 ghost use Rattle.defs.specs.Sections.{EntriesOk};
 ghost use Rattle.counts.specs.Sizes.{capped_size};
 ghost use Rattle.walk.specs.Entries.{size, Entries};
 ghost use Rattle.walk.specs.Normal.{pair_size};
 
-use crate::answers::{ended, refused};
+use crate::ending::ended;
+use answers::Refusal;
 use counts::sizes::count_normal;
+use table::EntryNo;
 use table::header::read_header;
-use table::numbers::wide;
+use table::limits::STEP_WORDS;
 use table::sections::{child_section, entry_section};
-use table::{EntryNo, Written};
 use table_check::check;
 use walk::hyps::hyp_words;
-use walk::normal::{Taken, begin, next};
+use walk::normal::{begin, next};
 use walk::room::working_words;
-use walk::steps::{STEP_WORDS, put_step};
+use walk::steps::put_step;
 
 // The most steps of a normal list.
 pub const MAX_NORMAL_STEPS: u32 = 1000000;
@@ -58,20 +60,11 @@ fn write_normal(
     begin(entries, children, stack, qed);
     let mut depth: usize = 1;
     let mut at: usize = 0;
-    loop {
-        let taken = next(entries, children, stack, explicit, depth);
-        let Taken::Step {
-            statement,
-            hyp,
-            depth: below,
-        } = taken
-        else {
-            return;
-        };
-        let words = hyp_words(hyp);
-        put_step(out, at, 0, 0, statement.0, words.parent, words.index);
+    while let Some(taken) = next(entries, children, stack, explicit, depth) {
+        let words = hyp_words(taken.hyp);
+        put_step(out, at, 0, 0, taken.statement.0, words.parent, words.index);
         at += STEP_WORDS;
-        depth = below;
+        depth = taken.depth;
     }
 }
 
@@ -82,28 +75,25 @@ pub fn normal_list(
     explicit: bool,
     work: &mut [u32],
     out: &mut [u32],
-) -> Written
-    ensures { answer_one result.number result.length (work.new ∷ []) out.new
+) -> Result<usize, Refusal>
+    ensures { answer_one (answer_number result) (answer_length result) (work.new ∷ []) out.new
         ≡ step_list_outcome words.now labels.now false explicit work.old out.old }
 {
-    let number = check(words, labels);
-    if number != 0 {
-        return refused(number);
-    }
+    check(words, labels)?;
     if work.len() < working_words(words) {
-        return refused(14);
+        return Err(Refusal::ShortWork);
     }
     let header = read_header(words);
     let entries = entry_section(words);
     let children = child_section(words);
-    let steps = count_steps(entries, children, wide(header.entries), header.qed, work);
+    let steps = count_steps(entries, children, header.entries as usize, header.qed, work);
     if MAX_NORMAL_STEPS < steps {
-        return ended(work, 13, 0);
+        return ended(work, Err(Refusal::ManySteps));
     }
-    let length = STEP_WORDS * wide(steps);
+    let length = STEP_WORDS * steps as usize;
     if out.len() < length {
-        return ended(work, 15, 0);
+        return ended(work, Err(Refusal::ShortOutput));
     }
     write_normal(entries, children, work, explicit, header.qed, out);
-    ended(work, 0, length)
+    ended(work, Ok(length))
 }

@@ -3,7 +3,9 @@
 // give for the marked cases; here the code is run, and what it prints is stored.
 #![tactic(auto)]
 
+use answers::{Refusal, Written, WrittenTwo};
 use layout::Layout;
+use std::fmt::Display;
 use std::io;
 
 // `wa` floating, `ha` essential, `op` (`wx`, `wy`), `wx`, `wy` floating, `hx` essential, `ru` (`wx`, `hx`), `th` (`wa`, `ha`);
@@ -35,24 +37,8 @@ const TABLE_BLOCKS: [u32; 151] = [
 const LABELS: [u8; 16] = *b"wahaopwxwyhxruth";
 
 // Up to so many numbers, a blank before each, then a newline; past the end of the slice nothing is printed.
-fn print_numbers(rt: &impl Print, numbers: &[u32], count: usize) -> io::Result<()> {
+fn print_numbers<T: Display>(rt: &impl Print, numbers: &[T], count: usize) -> io::Result<()> {
     for number in &numbers[..count.min(numbers.len())] {
-        print!(rt; " {number}")?;
-    }
-    println!(rt)
-}
-
-// The same of distances.
-fn print_distances(rt: &impl Print, distances: &[u16], count: usize) -> io::Result<()> {
-    for distance in &distances[..count.min(distances.len())] {
-        print!(rt; " {distance}")?;
-    }
-    println!(rt)
-}
-
-// Those from a place on.
-fn print_from(rt: &impl Print, numbers: &[u16], start: usize) -> io::Result<()> {
-    for number in &numbers[start.min(numbers.len())..] {
         print!(rt; " {number}")?;
     }
     println!(rt)
@@ -63,34 +49,54 @@ fn print_answer(rt: &impl Print, what: &str, number: u32, length: usize) -> io::
     print!(rt; "{what} answer {number}, length {length}:")
 }
 
+// An answer, and what it wrote.
+fn print_written<T: Display>(
+    rt: &impl Print,
+    what: &str,
+    answer: Result<usize, Refusal>,
+    out: &[T],
+) -> io::Result<()> {
+    let Written { number, length } = Written::from(answer);
+    print_answer(rt, what, number, length)?;
+    print_numbers(rt, out, length)
+}
+
 fn show_parents(rt: &impl Print, words: &[u32]) -> io::Result<()> {
     let mut out = [0u32; 8];
     let answer = counts::parents::parents(words, &LABELS, &mut out);
-    print_answer(rt, "parents", answer.number, answer.length)?;
-    print_numbers(rt, &out, answer.length)
+    print_written(rt, "parents", answer, &out)
 }
 
 fn show_distances(rt: &impl Print, words: &[u32]) -> io::Result<()> {
     let mut out = [0u16; 8];
     let answer = counts::distances::distances(words, &LABELS, &mut out);
-    print_answer(rt, "distances", answer.number, answer.length)?;
-    print_distances(rt, &out, answer.length)
+    print_written(rt, "distances", answer, &out)
 }
 
-fn show_packed(rt: &impl Print, words: &[u32], explicit: bool) -> io::Result<()> {
+// A step list, written by `write` into an output with a working slice.
+fn show_list<F: FnOnce(&mut [u32], &mut [u32]) -> Result<usize, Refusal>>(
+    rt: &impl Print,
+    what: &str,
+    write: F,
+) -> io::Result<()>
+    requires { F.IsAlwaysCallable write }
+{
     let mut work = [0u32; 256];
     let mut out = [0u32; 64];
-    let answer = lists::packed::packed_list(words, &LABELS, explicit, &mut work, &mut out);
-    print_answer(rt, "packed", answer.number, answer.length)?;
-    print_numbers(rt, &out, answer.length)
+    let answer = write(&mut work, &mut out);
+    print_written(rt, what, answer, &out)
 }
 
 fn show_normal(rt: &impl Print, words: &[u32], explicit: bool) -> io::Result<()> {
-    let mut work = [0u32; 256];
-    let mut out = [0u32; 64];
-    let answer = lists::normal::normal_list(words, &LABELS, explicit, &mut work, &mut out);
-    print_answer(rt, "normal", answer.number, answer.length)?;
-    print_numbers(rt, &out, answer.length)
+    show_list(rt, "normal", |work, out| {
+        lists::normal::normal_list(words, &LABELS, explicit, work, out)
+    })
+}
+
+fn show_packed(rt: &impl Print, words: &[u32], explicit: bool) -> io::Result<()> {
+    show_list(rt, "packed", |work, out| {
+        lists::packed::packed_list(words, &LABELS, explicit, work, out)
+    })
 }
 
 // The letters `AACZECBD` with the label list `op`, `ru`, decoded, and what is decoded read into entries and children.
@@ -98,8 +104,7 @@ fn show_reading(rt: &impl Print, words: &[u32]) -> io::Result<()> {
     let list = [2u32, 6];
     let mut steps = [0u32; 35];
     let decoded = decode::decode(words, &LABELS, &list, b"AACZECBD", &mut steps);
-    print_answer(rt, "decoded", decoded.number, decoded.length)?;
-    print_numbers(rt, &steps, decoded.length)?;
+    print_written(rt, "decoded", decoded, &steps)?;
     let mut work = [0u32; 16];
     let mut entries = [0u32; 18];
     let mut children = [0u32; 8];
@@ -111,6 +116,7 @@ fn show_reading(rt: &impl Print, words: &[u32]) -> io::Result<()> {
         &mut entries,
         &mut children,
     );
+    let read = WrittenTwo::from(read);
     print_answer(rt, "entries", read.number, read.first)?;
     print_numbers(rt, &entries, read.first)?;
     print_answer(rt, "children", read.number, read.second)?;
@@ -139,6 +145,7 @@ fn show_letters(rt: &impl Print, words: &[u32]) -> io::Result<()> {
         &mut list,
         &mut letters,
     );
+    let answer = WrittenTwo::from(answer);
     print_answer(rt, "labels", answer.number, answer.first)?;
     print_numbers(rt, &list, answer.first)?;
     print_answer(rt, "letters", answer.number, answer.second)?;
@@ -157,9 +164,10 @@ fn show_text(
     let mut sums = [0u16; 1725];
     let mut out = [0u8; 256];
     let answer = text::text(words, labels, style, layout, &mut work, &mut sums, &mut out);
-    print_answer(rt, "text", answer.number, answer.length)?;
+    let Written { number, length } = Written::from(answer);
+    print_answer(rt, "text", number, length)?;
     println!(rt)?;
-    print_bytes(rt, &out, answer.length)
+    print_bytes(rt, &out, length)
 }
 
 fn show_texts(rt: &impl Print, words: &[u32]) -> io::Result<()> {
@@ -192,7 +200,8 @@ fn show_choice(rt: &impl Print) -> io::Result<()> {
     let choice = choice::choose(&costs, &block, 7, &mut sums);
     let total = choice.total;
     print!(rt; "chosen, of total {total}:")?;
-    print_from(rt, &sums, choice.start)
+    let start = choice.start.min(sums.len());
+    print_numbers(rt, &sums[start..], sums.len())
 }
 
 // A table of one entry, whose label has 73 or 74 bytes; the theorem's label is the last byte.
@@ -224,7 +233,9 @@ fn show_others(rt: &impl Print) -> io::Result<()> {
         Layout::standard(),
     )?;
     let no_entry = [1, 0, 0, 0, 10, 15, 15, 15, 0, 0, 0, 0, 1, 0, 0u32];
-    let number = table_check::check(&no_entry, b"t");
+    let number = table_check::check(&no_entry, b"t")
+        .err()
+        .map_or(0, Refusal::number);
     println!(rt; "n = 0: {number}")
 }
 

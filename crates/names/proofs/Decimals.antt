@@ -71,12 +71,7 @@ pub digits_most : (x : ℕ) → x ≤ max_word → length (digits x) ≤ most_di
 unfolding tens
 digits_most x h = digits_few (most_digits - 1) x (omega arith)
 
--- ---- an array whose last elements are the digits of v
+-- ---- an array whose last elements are the digits of v: its part from `start` to its end
 
-module _ (array : List ℕ) (start v : ℕ) (last : drop start array ≡ digits v) (fills : start + length (digits v) ≡ most_digits) where
-  pub array_length : length array ≡ most_digits
-  array_length = omega (arith, length_some v, length-drop start array, ap length last)
-
-  -- from `start` to its end
-  pub array_part : take (most_digits - start) (drop start array) ≡ digits v
-  array_part = take_all (most_digits - start) (drop start array) (rw length-drop (omega (arith, array_length))) ∙ last
+pub array_part : (array : List ℕ) (start v : ℕ) → drop start array ≡ digits v → take (length array - start) (drop start array) ≡ digits v
+array_part array start v last = take_all (length array - start) (drop start array) (omega (arith, length-drop start array)) ∙ last

@@ -3,16 +3,16 @@
 use mathlib.Core.Path.{◌≡◌, refl, sym, ap, ◌∙◌}
 use mathlib.Core.Bool.{Bool, true, false, ◌||◌}
 use mathlib.Core.List.{List, map}
-use Prim.Native.Nat.{ℕ, ◌+◌, ◌-◌, ◌<◌, ◌≤◌}
+use Prim.Native.Nat.{ℕ, ◌+◌, ◌<◌, ◌≤◌}
 use native.Mathlib.Decide.{ℕ_discrete}
 use native.Mathlib.Omega.{arith}
-use lib.ListN.{length, get_or, set, take, drop, length-map, length-set, length-replicate, get_or-replicate}
+use lib.ListN.{length, get_or, set, length-map, length-set, length-replicate, get_or-replicate}
 use lib.Seq.{ext_get_or, get_or-set_same, get_or-set_other}
 use Rattle.laws.specs.Tools.{pick, range, same, some_below, zeroed}
 use Rattle.laws.specs.Lists.{boole, get_d_map, map_all, range_length, range_at}
 use Rattle.laws.specs.Below.{some_below_next}
 use Rattle.laws.specs.Counting.{range_below}
-use Rattle.defs.specs.Table.{word, label_start_in, label_length_in, label_in}
+use Rattle.defs.specs.Table.{word, label_in}
 use Rattle.defs.specs.Names.{digits, is_label_in}
 use Rattle.defs.specs.NameLaws.{value}
 use Rattle.names.specs.Decimals.{cap, capped}
@@ -65,13 +65,10 @@ taken_more ss b k n =
     (λ v h. rw (taken_at ss b k n v h, some_below_next (λ j. same (label_in ss b j) (digits v)) k) (or_else (is_label_in ss b k (digits v)) (same (label_in ss b k) (digits v))))
     (range 0 n) (range_below n))
 
--- label k, where its record says that it lies
-pub taken_turn : (ss b : List ℕ) (k n start len : ℕ) (before after : List ℕ) → before ≡ taken_by ss b k n → start ≡ label_start_in ss k → len ≡ label_length_in ss k
-    → after ≡ with_label (take (start + len - start) (drop start b)) before → after ≡ taken_by ss b (k + 1) n
-unfolding label_in
-taken_turn ss b k n start len before after e from long turn =
-    let l : start + len - start ≡ len = omega arith in
-    rw (l, long, from, e) at turn ∙ taken_more ss b k n
+-- label k, put into numbers that say the labels before it
+pub taken_turn : (ss b : List ℕ) (k n : ℕ) (label before after : List ℕ) → before ≡ taken_by ss b k n → label ≡ label_in ss b k
+    → after ≡ with_label label before → after ≡ taken_by ss b (k + 1) n
+taken_turn ss b k n label before after e is turn = rw (is, e) at turn ∙ taken_more ss b k n
 
 -- ---- one label
 

@@ -4,8 +4,9 @@ ghost use Rattle.defs.specs.Names.{digits};
 ghost use Rattle.laws.specs.Puts.{farthest, Put, Placed};
 ghost use Rattle.names.specs.Decimals.{most_digits};
 
-// Its digits stand at the end of the array, from `start` on.
-#[derive(Clone, Copy)]
+// The digits of a number stand at the end of the array, from `start` on.
+// As it is: (a) no heap: a decimal owns its digits, so its array has room for the most digits, and `start` says where they begin.
+#[derive(Clone, Copy, Debug, PartialEq, Eq)]
 pub struct Decimal {
     pub digits: [u8; Decimal::MOST],
     pub start: usize,

@@ -17,13 +17,14 @@ fn name_marks(statements: &[u32], labels: &[u8], count: usize, names: &mut [u32]
 {
     mark_taken(statements, labels, names);
     let mut mark: usize = 0;
-    let mut number: usize = 1;
-    while mark < count {
+    for number in 1..names.len() {
+        if mark == count {
+            return;
+        }
         if names[number] == 0 {
             mark += 1;
             names[mark] = number as u32;
         }
-        number += 1;
     }
 }
 

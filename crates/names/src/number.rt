@@ -8,31 +8,29 @@ ghost use Rattle.names.specs.Decimals.{capped};
 use crate::decimal::decimal_of;
 
 // Numbers from here on are not told apart: more than there are marks and labels.
-const CAP: u32 = 100000;
+const CAP: u64 = 100000;
 
 // A byte below `0` says 0, as in the definition; one past `9` says more than 9.
 fn digit_of(byte: u8) -> u32
     ensures { result ≡ byte - 48 }
 {
-    if byte < b'0' { 0 } else { (byte - b'0') as u32 }
+    byte.saturating_sub(b'0') as u32
 }
 
 // The number after one more digit.
 fn next_digit(number: u32, digit: u32) -> u32
     ensures { result ≡ capped (10 * number + digit) }
 {
-    let next = 10 * (number as u64) + (digit as u64);
-    if next < CAP as u64 { next as u32 } else { CAP }
+    let next = 10 * number as u64 + digit as u64;
+    next.min(CAP) as u32
 }
 
 pub fn number_of(bytes: &[u8]) -> u32
     ensures { result ≡ capped (value 0 bytes.now) }
 {
     let mut number: u32 = 0;
-    let mut i: usize = 0;
-    while i < bytes.len() {
-        number = next_digit(number, digit_of(bytes[i]));
-        i += 1;
+    for byte in bytes {
+        number = next_digit(number, digit_of(*byte));
     }
     number
 }
@@ -42,7 +40,5 @@ pub fn is_decimal(bytes: &[u8], v: u32) -> bool
     ensures { result ≡ same bytes.now (digits v) }
 {
     let decimal = decimal_of(v);
-    let digits = decimal.digits;
-    let start = decimal.start;
-    check::same(bytes, &digits[start..])
+    bytes == &decimal.digits[decimal.start..]
 }

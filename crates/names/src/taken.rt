@@ -5,10 +5,9 @@ ghost use Rattle.names.specs.Decimals.{cap};
 ghost use Rattle.names.specs.Taken.{statements_in, with_label, taken_by};
 
 use crate::number::{is_decimal, number_of};
-use slices::fill::fill;
 use table::StatementNo;
 use table::limits::STATEMENT_WORDS;
-use table::statements::{label_length, label_start};
+use table::statements::label_of;
 
 // 1 at the number that this label is, if it is one.
 fn mark_label(label: &[u8], taken: &mut [u32])
@@ -17,10 +16,8 @@ fn mark_label(label: &[u8], taken: &mut [u32])
 {
     let number = number_of(label);
     let at = number as usize;
-    if at < taken.len() {
-        if is_decimal(label, number) {
-            taken[at] = 1;
-        }
+    if at < taken.len() && is_decimal(label, number) {
+        taken[at] = 1;
     }
 }
 
@@ -31,13 +28,9 @@ pub fn mark_taken(statements: &[u32], labels: &[u8], taken: &mut [u32])
     ensures { taken.new
         ≡ taken_by statements.now labels.now (statements_in statements.now) (length taken.old) }
 {
-    fill(taken, 0); // the slice may hold anything at first
+    taken.fill(0); // the slice may hold anything at first
     let count = (statements.len() / STATEMENT_WORDS) as u32;
-    let mut k: u32 = 0;
-    while k < count {
-        let start = label_start(statements, StatementNo(k));
-        let end = start + label_length(statements, StatementNo(k));
-        mark_label(&labels[start..end], taken);
-        k += 1;
+    for k in 0..count {
+        mark_label(label_of(statements, labels, StatementNo(k)), taken);
     }
 }

@@ -1,7 +1,7 @@
 // A table with the statements and hypotheses of another, and new entries and children: its header and its length.
 #![tactic(auto)]
 
-ghost use Rattle.std.specs.Prelude.{◌≡◌, ◌≤◌, ◌-◌, ◌+◌, ◌/◌, length};
+ghost use Rattle.std.specs.Prelude.{◌≡◌, ◌≤◌, ◌+◌, ◌/◌, length};
 ghost use Rattle.defs.specs.Table.{entry_size, entries_from};
 ghost use Rattle.new_table.specs.NewTables.{most_entry_words, Renewable, new_header};
 
@@ -12,13 +12,6 @@ pub fn entry_count(entries: &[u32]) -> u32
     ensures { result ≡ length entries.now / entry_size }
 {
     (entries.len() / ENTRY_WORDS) as u32
-}
-
-// The number of the last of so many.
-fn last(count: u32) -> u32
-    ensures { result ≡ count - 1 }
-{
-    if count == 0 { 0 } else { count - 1 }
 }
 
 // The header of the new table.
@@ -36,9 +29,9 @@ pub fn new_header(words: &[u32], entries: &[u32], children: &[u32]) -> [u32; HEA
         HEADER_WORDS as u32,
         words[5],
         from,
-        from + 3 * count,
+        from + ENTRY_WORDS as u32 * count,
         words[8],
-        last(count),
+        count.saturating_sub(1),
     ]
 }
 

@@ -49,35 +49,29 @@ module _ (w : List ℕ) (l : Layout) (list letters : List ℕ) where
   late_not_early = not_early (bad10 w) (bad11 w) (bad12 w l) (bad15 (labels_of w l) list || bad15 (letters_for w l) letters)
 
   -- a refusal: lengths 0, both outputs as they were
-  refusal : (number first second : ℕ) → number ≡ late_number w l list letters → number ≢ 0 → first ≡ 0 → second ≡ 0 → WroteBoth w l number first second list list letters letters
+  refusal : (number : ℕ) → number ≡ late_number w l list letters → number ≢ 0 → WroteBoth w l number 0 0 list list letters letters
   unfolding length_after out_after
-  refusal number first second is some f s =
+  refusal number is some =
       let no : eqb (late_number w l list letters) 0 ≡ false = eqb_no (late_number w l list letters) 0 (λ z. some (is ∙ z)) in
-      record { number_is = is; first_is = rw no f; second_is = rw no s; list_is = rw no refl; letters_is = rw no refl }
+      record { number_is = is; first_is = rw no; second_is = rw no; list_is = rw no; letters_is = rw no }
 
   -- one of the tests 10 to 12 refuses
-  pub refused_first : (number k first second : ℕ) → number ≡ k → k ≡ first_of (compressed_tests w l) → k ≢ 0 → first ≡ 0 → second ≡ 0
-      → WroteBoth w l number first second list list letters letters
-  refused_first number k first second e is some f s =
-      refusal number first second (e ∙ is ∙ sym (late_is ∙ else_refused (first_of (compressed_tests w l)) _ (λ z. some (is ∙ z)))) (λ z. some (sym e ∙ z)) f s
+  pub refused_first : (number : ℕ) → number ≡ first_of (compressed_tests w l) → number ≢ 0 → WroteBoth w l number 0 0 list list letters letters
+  refused_first number is some = refusal number (is ∙ sym (late_is ∙ else_refused (first_of (compressed_tests w l)) _ (λ z. some (is ∙ z)))) some
 
   -- none of them refuses, and an output does not fit
   module _ (fine : 0 ≡ first_of (compressed_tests w l)) where
     last_is : late_number w l list letters ≡ first_of (15 when (bad15 (labels_of w l) list || bad15 (letters_for w l) letters) ∷ [])
     last_is = late_is ∙ else_good (first_of (compressed_tests w l)) _ (sym fine)
 
-    pub list_short : (number first second : ℕ) (letters' : List ℕ) → letters' ≡ letters → number ≡ 15 → length list < length (labels_of w l) → first ≡ 0 → second ≡ 0
-        → WroteBoth w l number first second list list letters letters'
+    pub list_short : (letters' : List ℕ) → letters' ≡ letters → length list < length (labels_of w l) → WroteBoth w l 15 0 0 list list letters letters'
     unfolding first_of
-    list_short number first second letters' same e h f s =
-        rw same (refusal number first second (e ∙ sym (last_is ∙ rw (lt-ltb (length list) (length (labels_of w l)) h))) (λ z. omega arith) f s)
+    list_short letters' same h = rw same (refusal 15 (sym (last_is ∙ rw (lt-ltb (length list) (length (labels_of w l)) h))) (λ z. omega arith))
 
-    pub letters_short : (number first second : ℕ) (letters' : List ℕ) → letters' ≡ letters → number ≡ 15 → length letters < length (letters_for w l) → first ≡ 0 → second ≡ 0
-        → WroteBoth w l number first second list list letters letters'
+    pub letters_short : (letters' : List ℕ) → letters' ≡ letters → length letters < length (letters_for w l) → WroteBoth w l 15 0 0 list list letters letters'
     unfolding first_of
-    letters_short number first second letters' same e h f s =
-        rw same (refusal number first second
-        (e ∙ sym (last_is ∙ rw (lt-ltb (length letters) (length (letters_for w l)) h, or_true (bad15 (labels_of w l) list)))) (λ z. omega arith) f s)
+    letters_short letters' same h =
+        rw same (refusal 15 (sym (last_is ∙ rw (lt-ltb (length letters) (length (letters_for w l)) h, or_true (bad15 (labels_of w l) list)))) (λ z. omega arith))
 
     -- both fit
     pub both_written : (first second : ℕ) (list' letters' : List ℕ) → first ≡ length (labels_of w l) → second ≡ length (letters_for w l)
@@ -107,34 +101,28 @@ module _ (w b : List ℕ) (l : Layout) (work sums list letters : List ℕ) where
       answer_two number first second (work ∷ sums ∷ []) list letters ≡ letters_outcome w b l work sums list letters
 
   -- a refusal before any work, with the number that the tests give
-  early : (k number first second : ℕ) → letters_number w b l work sums list letters ≡ k → k ≢ 0 → is_early k ≡ true → number ≡ k → first ≡ 0 → second ≡ 0 → outcome number first second
+  early : (k : ℕ) → letters_number w b l work sums list letters ≡ k → k ≢ 0 → is_early k ≡ true → outcome k 0 0
   unfolding letters_outcome
-  early k number first second is some e n f s =
-      answer_by _ k _ 0 _ 0 work sums work sums list list letters letters n f s refl refl refl refl
-      ∙ sym (rw is (two_early k (labels_of w l) (letters_for w l) (work ∷ sums ∷ []) list letters some e))
+  early k is some e = sym (rw is (two_early k (labels_of w l) (letters_for w l) (work ∷ sums ∷ []) list letters some e))
 
-  pub table_refused : (number first second : ℕ) → number ≡ table_refusal w b → table_refusal w b ≢ 0 → first ≡ 0 → second ≡ 0 → outcome number first second
+  pub table_refused : (number : ℕ) → number ≡ table_refusal w b → table_refusal w b ≢ 0 → outcome number 0 0
   unfolding letters_number
-  table_refused number first second is bad =
-      early (table_refusal w b) number first second (else_refused (table_refusal w b) _ bad) bad (refused_early (table_refusal w b) bad (table_refusal_most w b)) is
+  table_refused number is bad = rw is (early (table_refusal w b) (else_refused (table_refusal w b) _ bad) bad (refused_early (table_refusal w b) bad (table_refusal_most w b)))
 
   module _ (ok : table_refusal w b ≡ 0) where
-    pub layout_refused : (number first second : ℕ) → number ≡ 8 → bad8 l ≡ true → first ≡ 0 → second ≡ 0 → outcome number first second
+    pub layout_refused : bad8 l ≡ true → outcome 8 0 0
     unfolding letters_number first_of is_early
-    layout_refused number first second is bad =
-        early 8 number first second (else_good (table_refusal w b) _ ok ∙ rw bad) (λ e. omega arith) refl is
+    layout_refused bad = early 8 (else_good (table_refusal w b) _ ok ∙ rw bad) (λ e. omega arith) refl
 
     module _ (right : bad8 l ≡ false) where
-      pub work_short : (number first second : ℕ) → number ≡ 14 → length work < need32 w → first ≡ 0 → second ≡ 0 → outcome number first second
+      pub work_short : length work < need32 w → outcome 14 0 0
       unfolding letters_number first_of is_early
-      work_short number first second is short =
-          early 14 number first second (else_good (table_refusal w b) _ ok ∙ rw (right, lt-ltb (length work) (need32 w) short)) (λ e. omega arith) refl is
+      work_short short = early 14 (else_good (table_refusal w b) _ ok ∙ rw (right, lt-ltb (length work) (need32 w) short)) (λ e. omega arith) refl
 
-      pub sums_short : (number first second : ℕ) → number ≡ 14 → length sums < need16 w l → first ≡ 0 → second ≡ 0 → outcome number first second
+      pub sums_short : length sums < need16 w l → outcome 14 0 0
       unfolding letters_number first_of is_early
-      sums_short number first second is short =
-          early 14 number first second
-          (else_good (table_refusal w b) _ ok ∙ rw (right, lt-ltb (length sums) (need16 w l) short, or_true (bad14 (need32 w) work))) (λ e. omega arith) refl is
+      sums_short short =
+          early 14 (else_good (table_refusal w b) _ ok ∙ rw (right, lt-ltb (length sums) (need16 w l) short, or_true (bad14 (need32 w) work))) (λ e. omega arith) refl
 
       number_late : need32 w ≤ length work → need16 w l ≤ length sums → letters_number w b l work sums list letters ≡ late_number w l list letters
       unfolding letters_number late_number first_of compressed_tests

@@ -176,7 +176,8 @@ module _ (w b : List ℕ) (ok : table_refusal w b ≡ 0) (l : Layout) (right : b
               ts = steps;
               says = said;
               few = all_map (StepFits s (entries w)) (λ t. a.both + t.ref ≤ max_word)
-                  (λ t f. omega (arith, f.ref_most, (header w (good w b ok).ok1).n_most, (header w (good w b ok).ok1).s_most, both_is, ordered.as_many, labels_few, list_short w (theorem_ok w b ok))) steps
+                  (λ t f. omega (arith, f.ref_most, (header w (good w b ok).ok1).n_most, (header w (good w b ok).ok1).s_most, both_is, ordered.as_many, labels_few, list_short w (theorem_ok w b ok)))
+                  steps
                   (packed_steps_fit w b ok false);
             };
             listed_is = listed_is ∙ ordered.as_many;

@@ -1,6 +1,6 @@
 -- Tests 10 to 12 by what the code asks: of the theorem's list, and of the listed statements.
 -- 11 is a test of the listed statements since those are the reachable ones that are not in the theorem's list.
-use mathlib.Core.Path.{◌≡◌, refl, sym, ◌∙◌}
+use mathlib.Core.Path.{◌≡◌, refl, ◌∙◌}
 use mathlib.Core.Bool.{Bool, true, false}
 use mathlib.Core.List.{List, [], ◌∷◌}
 use Prim.Native.Nat.{ℕ, ◌-◌, ◌+◌, ◌*◌, ◌≤◌}
@@ -42,31 +42,29 @@ line_room_most l ok = omega (arith, (bounds l ok).wide, (bounds l ok).some)
 
 module _ (w b : List ℕ) (l : Layout) (ok : table_refusal w b ≡ 0) where
   -- refused 10
-  pub mixed_first : (r : ℕ) → r ≡ 10 → bad10 w ≡ true → r ≡ first_of (compressed_tests w l)
+  pub mixed_first : bad10 w ≡ true → 10 ≡ first_of (compressed_tests w l)
   unfolding compressed_tests first_of
-  mixed_first r e h = rw (e, h)
+  mixed_first h = rw h
 
   -- else by what is listed
-  pub by_listed : (r W : ℕ) (list : List ℕ) → bad10 w ≡ false → W ≡ line_room l → list ≡ listed w (packed_of w false)
-      → r ≡ first_of (11 when any (λ k. eqb (kind_in (statement_words w) k) 2) list ∷ 12 when any (λ k. ltb (W - 1) (label_length_in (statement_words w) k)) list ∷ [])
-      → r ≡ first_of (compressed_tests w l)
-  unfolding compressed_tests first_of line_room bad12
-  by_listed r W list h is list_is e =
-      let most : W - 1 ≡ l.width - l.indent = omega arith in
-      e ∙ rw (h, stray_listed w b ok, list_is, most)
+  module _ (W : ℕ) (ss list : List ℕ) (ss_is : ss ≡ statement_words w) (is : W ≡ line_room l) (list_is : list ≡ listed w (packed_of w false)) where
+    pub by_listed : (r : ℕ) → bad10 w ≡ false → r ≡ first_of (11 when any (λ k. eqb (kind_in ss k) 2) list ∷ 12 when any (λ k. ltb (W - 1) (label_length_in ss k)) list ∷ [])
+        → r ≡ first_of (compressed_tests w l)
+    unfolding compressed_tests first_of line_room bad12
+    by_listed r h e =
+        let most : W - 1 ≡ l.width - l.indent = omega arith in
+        e ∙ rw (ss_is, h, stray_listed w b ok, list_is, most)
 
-  -- and where none refuses, no label is too long
-  pub none_long : (r W : ℕ) (list : List ℕ) → W ≡ line_room l → list ≡ listed w (packed_of w false)
-      → r ≡ first_of (11 when any (λ k. eqb (kind_in (statement_words w) k) 2) list ∷ 12 when any (λ k. ltb (W - 1) (label_length_in (statement_words w) k)) list ∷ [])
-      → r ≡ 0 → any (λ k. ltb (W - 1) (label_length_in (statement_words w) k)) (listed w (packed_of w false)) ≡ false
-  unfolding first_of
-  none_long r W list is list_is e z =
-      rw (← list_is) (zero_second (any (λ k. eqb (kind_in (statement_words w) k) 2) list) (any (λ k. ltb (W - 1) (label_length_in (statement_words w) k)) list) (sym z ∙ e))
-    where
-      zero_second : (p q : Bool) → 0 ≡ first_of (11 when p ∷ 12 when q ∷ []) → q ≡ false
-      zero_second true q h = absurd (omega arith)
-      zero_second false true h = absurd (omega arith)
-      zero_second false false h = refl
+    -- and where none refuses, no label is too long
+    pub none_long : 0 ≡ first_of (11 when any (λ k. eqb (kind_in ss k) 2) list ∷ 12 when any (λ k. ltb (W - 1) (label_length_in ss k)) list ∷ [])
+        → any (λ k. ltb (W - 1) (label_length_in (statement_words w) k)) (listed w (packed_of w false)) ≡ false
+    unfolding first_of
+    none_long e = rw (← ss_is, ← list_is) (zero_second (any (λ k. eqb (kind_in ss k) 2) list) (any (λ k. ltb (W - 1) (label_length_in ss k)) list) e)
+      where
+        zero_second : (p q : Bool) → 0 ≡ first_of (11 when p ∷ 12 when q ∷ []) → q ≡ false
+        zero_second true q h = absurd (omega arith)
+        zero_second false true h = absurd (omega arith)
+        zero_second false false h = refl
 
 -- the cells for the choice are few
 pub cells_most : (s t : ℕ) → t ≡ s → s ≤ max_statements → (W : ℕ) (l : Layout) → W ≡ line_room l → bad8 l ≡ false → (t + 1) * (W + 1) ≤ (max_statements + 1) * (max_width + 1)

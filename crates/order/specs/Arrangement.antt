@@ -1,5 +1,9 @@
 -- What the compressed form is written from, in the working slice: packed list, numbers of the statements, label list.
 use Rattle.std.specs.Prelude.{◌≡◌, false, List, ℕ, ◌+◌, ◌*◌, ◌≤◌, ◌<◌, length}
+use Rattle.std.specs.Prelude.{Result}
+use Rattle.std.specs.Result.{IfOk}
+use Rattle.answers.specs.Refused.{answer_number}
+use Rattle.answers.specs.declared.refusals.Refusal.{Refusal}
 use Rattle.laws.specs.Tools.{part}
 use Rattle.laws.specs.Lists.{All}
 use Rattle.defs.specs.Table.{statements, entries, child_refs, statement_words, mandatory}
@@ -44,6 +48,6 @@ pub record Arrangement (w : List ℕ) (l : Layout) (r : Arranged) (ws : List ℕ
   pub few_steps : r.steps ≤ child_refs w + 1
 
 -- unless one of the tests 10 to 12 refuses
-pub record Arranges (w : List ℕ) (l : Layout) (r : Arranged) (ws : List ℕ) : Type 0 where
-  pub number_is : r.number ≡ first_of (compressed_tests w l)
-  pub done : r.number ≡ 0 → Arrangement w l r ws
+pub record Arranges (w : List ℕ) (l : Layout) (r : Result Arranged Refusal) (ws : List ℕ) : Type 0 where
+  pub number_is : answer_number r ≡ first_of (compressed_tests w l)
+  pub done : IfOk r (λ a. Arrangement w l a ws)

@@ -6,7 +6,6 @@ ghost use Rattle.defs.specs.Refusals.{need16};
 ghost use Rattle.layout.specs.Layouts.{layout_of};
 
 use layout::Layout;
-use table::numbers::wide;
 
 // For label order also u16: (s+1)×(W+1).
 pub fn working_sums(words: &[u32], layout: Layout) -> usize
@@ -14,5 +13,5 @@ pub fn working_sums(words: &[u32], layout: Layout) -> usize
     requires layout_value { bad8 (layout_of layout) ≡ false }
     ensures { result ≡ need16 words.now (layout_of layout) }
 {
-    (wide(words[0]) + 1) * (layout.line_room() + 1)
+    (words[0] as usize + 1) * (layout.line_room() + 1)
 }

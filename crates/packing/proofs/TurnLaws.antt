@@ -35,13 +35,13 @@ pub record Kept (w : List ℕ) (explicit : Bool) (h₀ : Held) (first until pare
 
 module _ (w : List ℕ) (explicit : Bool) (h₀ : Held) (first until parent : ℕ) where
   -- before its first turn
-  pub kept_first : first ≤ until → Kept w explicit h₀ first until parent h₀ first 0
-  kept_first some =
+  pub kept_first : first ≤ until → (index : ℕ) → index ≡ 0 → Kept w explicit h₀ first until parent h₀ first index
+  kept_first some index zero =
       let none : first - first ≡ 0 = omega arith in
       record {
         low = omega arith;
         high = some;
-        index_is = omega (arith, index_most explicit (first - first));
+        index_is = omega (arith, zero, index_most explicit (first - first));
         same = refl;
         listed = λ e o. rw none (no_children _ _ _ _ _);
       }

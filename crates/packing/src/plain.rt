@@ -19,9 +19,8 @@ pub fn plain_children(words: &&[u32], work: &mut [u32], e: EntryNo, start: usize
     ensures { ListedAll words.now.now false e.0 (held work.old start) (held work.new result) }
 {
     let own = children_of(*words, false, e);
-    let mut i = own.first;
     let mut end = start;
-    while i < own.until {
+    for i in own.first..own.until {
         let c = child_in(*words, i);
         let statement = statement_in(*words, c);
         if lists_children(*words, &work[..], c) {
@@ -30,12 +29,11 @@ pub fn plain_children(words: &&[u32], work: &mut [u32], e: EntryNo, start: usize
         } else {
             end = list_single(work, c, statement, 0, 0, end);
         }
-        i += 1;
     }
     end
 }
 
-// The children of a child, listed in the same way.
+// The children of a child, listed in the same way. As it is: one function would be a call for each entry, and slower (docs/PERFORMANCE.md).
 #[cycle(plain)]
 fn plain_grandchildren(words: &&[u32], work: &mut [u32], e: EntryNo, start: usize) -> usize
     requires header_ok { HeaderOk words.now.now }
@@ -43,9 +41,8 @@ fn plain_grandchildren(words: &&[u32], work: &mut [u32], e: EntryNo, start: usiz
     ensures { ListedAll words.now.now false e.0 (held work.old start) (held work.new result) }
 {
     let own = children_of(*words, false, e);
-    let mut i = own.first;
     let mut end = start;
-    while i < own.until {
+    for i in own.first..own.until {
         let c = child_in(*words, i);
         let statement = statement_in(*words, c);
         if lists_children(*words, &work[..], c) {
@@ -54,7 +51,6 @@ fn plain_grandchildren(words: &&[u32], work: &mut [u32], e: EntryNo, start: usiz
         } else {
             end = list_single(work, c, statement, 0, 0, end);
         }
-        i += 1;
     }
     end
 }

@@ -21,13 +21,14 @@ use Rattle.defs.specs.Checked.{header}
 use Rattle.defs.specs.Sections.{hyps_ok}
 use Rattle.store.specs.Places.{StoreOk}
 use Rattle.replay.specs.declared.turn.State.{State}
-use Rattle.replay.specs.declared.turn.Turn.TheVariants.{Refused, Going}
+use Rattle.std.specs.Prelude.{Result, Ok, Err}
+use Rattle.answers.specs.declared.refusals.Refusal.{Refusal}
+use Rattle.answers.specs.Refused.{refusal_number, refusal_some}
 use Rattle.replay.specs.Turns.{Readable, turn_of, Ended}
-use Rattle.replay.specs.declared.turn.Turn as code
 
 -- ---- the outputs after the steps
 
-pub ended_store : (es cs : List ℕ) (turn : code.Turn) (s : State) → turn ≡ Going s → Ended es cs turn → StoreOk es cs s.store
+pub ended_store : (es cs : List ℕ) (turn : Result State Refusal) (s : State) → turn ≡ Ok s → Ended es cs turn → StoreOk es cs s.store
 unfolding Ended
 ended_store es cs turn s h e = rw h at e
 
@@ -38,16 +39,16 @@ tail_zero b xs ys h z =
     let none : drop (length xs - b) (drop b xs) ≡ [] = drop_of_length-le (drop b xs) {i = length xs - b} (omega (arith, length-drop b xs)) in
     rw (z, mid_len b (length xs) xs (le_refl (length xs)), none, append-nil, length-take-le b xs h)
 
-module _ (es cs : List ℕ) (turn : code.Turn) (half : ℕ) (stack work : List ℕ) where
+module _ (es cs : List ℕ) (turn : Result State Refusal) (half : ℕ) (stack work : List ℕ) where
   abbrev after : Turn
   after = turn_of half stack es cs turn
 
-  pub settle_refused : (number : ℕ) (es' cs' : List ℕ) → turn ≡ Refused number → es' ≡ replicate (length es) 0 → cs' ≡ replicate (length cs) 0
-      → answer_two number 0 0 (zeroed work ∷ []) es' cs' ≡ settled work es cs after
+  pub settle_refused : (r : Refusal) (es' cs' : List ℕ) → turn ≡ Err r → es' ≡ replicate (length es) 0 → cs' ≡ replicate (length cs) 0
+      → answer_two (refusal_number r) 0 0 (zeroed work ∷ []) es' cs' ≡ settled work es cs after
   unfolding turn_of settled
-  settle_refused number es' cs' h ze zc = rw (h, ze, zc)
+  settle_refused r es' cs' h ze zc = rw (h, ze, zc)
 
-  pub settle_done : (s : State) (ys zs : List ℕ) → turn ≡ Going s → StoreOk es cs s.store
+  pub settle_done : (s : State) (ys zs : List ℕ) → turn ≡ Ok s → StoreOk es cs s.store
       → ys ≡ replicate (length (mid_of s.store.built (length es - s.store.built) es)) 0
       → zs ≡ replicate (length (mid_of s.store.kids (length cs - s.store.kids) cs)) 0
       → answer_two 0 s.store.built s.store.kids (zeroed work ∷ []) (put_mid s.store.built (length es - s.store.built) es ys) (put_mid s.store.kids (length cs - s.store.kids) cs zs)
@@ -64,12 +65,10 @@ settled_same work es es' cs cs' (going r) e f = rw (e, f)
 
 -- ---- the tests before the steps
 
-pub readable : (w b : List ℕ) (number : ℕ) → number ≡ table_refusal w b → number ≡ 0 → Readable w
-readable w b number checked fine =
-    let ok = sym checked ∙ fine in
-    record { header = header w (good w b ok).ok1; hyps = hyps_ok w b ok }
+pub readable : (w b : List ℕ) → table_refusal w b ≡ 0 → Readable w
+readable w b ok = record { header = header w (good w b ok).ok1; hyps = hyps_ok w b ok }
 
-module _ (w b steps work es cs : List ℕ) (number : ℕ) (checked : number ≡ table_refusal w b) where
+module _ (w b steps work es cs : List ℕ) where
   abbrev answer : Outcome
   answer = replay_outcome w b steps work es cs
 
@@ -78,25 +77,25 @@ module _ (w b steps work es cs : List ℕ) (number : ℕ) (checked : number ≡ 
   unfolding replay_outcome unchanged
   early k h n = rw (h, eqb_no k 0 n)
 
-  pub refused_table : ¬ (number ≡ 0) → answer_two number 0 0 (work ∷ []) es cs ≡ answer
+  pub refused_table : (r : Refusal) → refusal_number r ≡ table_refusal w b → answer_two (refusal_number r) 0 0 (work ∷ []) es cs ≡ answer
   unfolding replay_first
-  refused_table h = early number (else_refused (table_refusal w b) _ (λ z. h (checked ∙ z)) ∙ sym checked) h
+  refused_table r is = early (refusal_number r) (else_refused (table_refusal w b) _ (λ z. refusal_some r (is ∙ z)) ∙ sym is) (refusal_some r)
 
-  module _ (fine : number ≡ 0) where
+  module _ (fine : table_refusal w b ≡ 0) where
     pub refused_16 : ¬ (length steps % step_size ≡ 0) → answer_two 16 0 0 (work ∷ []) es cs ≡ answer
     unfolding replay_first first_of
-    refused_16 h = early 16 (else_good (table_refusal w b) _ (sym checked ∙ fine) ∙ rw (eqb_no (length steps % step_size) 0 h)) (λ z. omega arith)
+    refused_16 h = early 16 (else_good (table_refusal w b) _ fine ∙ rw (eqb_no (length steps % step_size) 0 h)) (λ z. omega arith)
 
     module _ (whole : length steps % step_size ≡ 0) where
       pub refused_14 : length work < 2 * (length steps / step_size) → answer_two 14 0 0 (work ∷ []) es cs ≡ answer
       unfolding replay_first first_of
       refused_14 h =
           early 14
-          (else_good (table_refusal w b) _ (sym checked ∙ fine) ∙ rw (eqb_yes (length steps % step_size) 0 whole, lt-ltb (length work) (2 * (length steps / step_size)) h))
+          (else_good (table_refusal w b) _ fine ∙ rw (eqb_yes (length steps % step_size) 0 whole, lt-ltb (length work) (2 * (length steps / step_size)) h))
           (λ z. omega arith)
 
       -- the steps decide
-      pub after_steps : 2 * (length steps / step_size) ≤ length work → (half : ℕ) (stack es₁ cs₁ : List ℕ) (turn : code.Turn)
+      pub after_steps : 2 * (length steps / step_size) ≤ length work → (half : ℕ) (stack es₁ cs₁ : List ℕ) (turn : Result State Refusal)
           → turn_of half stack es₁ cs₁ turn ≡ replayed w (length es) (length cs) (steps_in steps)
           → length es₁ ≡ length es → length cs₁ ≡ length cs → (k first second : ℕ) (work' es' cs' : List ℕ) → work' ≡ zeroed work
           → answer_two k first second (zeroed work ∷ []) es' cs' ≡ settled work es₁ cs₁ (turn_of half stack es₁ cs₁ turn)
@@ -105,7 +104,7 @@ module _ (w b steps work es cs : List ℕ) (number : ℕ) (checked : number ≡ 
       after_steps room half stack es₁ cs₁ turn ran le lc k first second work' es' cs' z end =
           rw (
             z,
-            else_good (table_refusal w b) _ (sym checked ∙ fine),
+            else_good (table_refusal w b) _ fine,
             eqb_yes (length steps % step_size) 0 whole,
             le-ltb (length work) (2 * (length steps / step_size)) room,
           )

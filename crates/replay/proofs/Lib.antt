@@ -3,5 +3,4 @@ mod KindLaws
 mod OneStepLaws
 mod RunLaws
 mod StackLaws
-mod StepLaws
 mod TurnLaws

@@ -12,7 +12,8 @@ use Rattle.defs.specs.Steps.{Step}
 use Rattle.defs.specs.Replay.{Replay, Turn, malformed, one_step}
 use Rattle.store.specs.Places.{StoreOk}
 use Rattle.replay.specs.declared.turn.State.{State}
-use Rattle.replay.specs.declared.turn.Turn.TheVariants.{Refused, Going}
+use Rattle.std.specs.Prelude.{Ok, Err}
+use Rattle.answers.specs.declared.refusals.Refusal.TheVariants.{BadList}
 use Rattle.replay.specs.Steps.{step_right, right_is}
 use Rattle.replay.specs.Turns.{standing, turn_of, Grown, normal_turn, Referred}
 use Rattle.replay.proofs.KindLaws.{right_reference, step_malformed, step_refers, step_normal}
@@ -30,7 +31,7 @@ module _ (w work es cs : List ℕ) (half : ℕ) (s : State) (room : half + half 
       let marks : length (take s.marks (drop half work)) ≡ s.marks = length-take-le s.marks (drop half work) (omega (arith, length-drop half work)) in
       sym (right_is w from t) ∙ rw (marks, told)
 
-  pub one_16 : right ≡ false → (turn_of half work es cs (Refused 16) ≡ answer) × Grown s es cs (Refused 16)
+  pub one_16 : right ≡ false → (turn_of half work es cs (Err BadList) ≡ answer) × Grown s es cs (Err BadList)
   unfolding turn_of Grown
   one_16 h = (step_malformed w (length es) (length cs) from t (rules ∙ rw h) ∙ ap (one_step w (length es) (length cs) from) read, tt)
 
@@ -42,7 +43,7 @@ module _ (w work es cs : List ℕ) (half : ℕ) (s : State) (room : half + half 
         sym (get_or-take s.marks (drop half work) (t.ref - 1) 0 (omega arith) ∙ get_or-drop half work (t.ref - 1) 0)
 
     pub one_refer : ¬ (t.ref ≡ 0) → (work' : List ℕ) (next : State) → Referred t.ref t.mark half work work' s next → StoreOk es cs s.store
-        → (turn_of half work' es cs (Going next) ≡ answer) × Grown s es cs (Going next)
+        → (turn_of half work' es cs (Ok next) ≡ answer) × Grown s es cs (Ok next)
     unfolding turn_of Grown
     one_refer h work' next went ok = (
       rw (went.store_is, went.height_is, went.push_is.stack_is, went.push_is.named_is, named_at h)

@@ -11,10 +11,11 @@ use Rattle.defs.specs.Steps.{Step, step_size}
 use Rattle.defs.specs.Replay.{Turn, steps_in, fresh, and_then, one_step, all_steps, replayed}
 use Rattle.store.specs.Places.{StoreOk}
 use Rattle.replay.specs.declared.turn.State.{State}
-use Rattle.replay.specs.declared.turn.Turn.TheVariants.{Refused, Going}
+use Rattle.std.specs.Prelude.{Result, Ok, Err}
+use Rattle.answers.specs.declared.refusals.Refusal.{Refusal}
+use Rattle.answers.specs.declared.refusals.Refusal.TheVariants.{BadStack}
 use Rattle.replay.specs.Steps.{step_at, steps_from, steps_next}
 use Rattle.replay.specs.Turns.{standing, turn_of, Grew, Grown, Ended}
-use Rattle.replay.specs.declared.turn.Turn as code
 
 pub record Running (w steps : List ℕ) (half : ℕ) (work₀ es₀ cs₀ work es cs : List ℕ) (s : State) (k : ℕ) : Type 0 where
   pub so_far : k ≤ half
@@ -45,7 +46,7 @@ module _ (w steps : List ℕ) (half : ℕ) (work₀ es₀ cs₀ work es cs : Lis
   abbrev answer : Turn
   answer = replayed w (length es₀) (length cs₀) (steps_in steps)
 
-  module _ (long : step_size * half ≡ length steps) (more : k < half) (work' es' cs' : List ℕ) (turn : code.Turn)
+  module _ (long : step_size * half ≡ length steps) (more : k < half) (work' es' cs' : List ℕ) (turn : Result State Refusal)
       (one : turn_of half work' es' cs' turn ≡ one_step w (length es) (length cs) (standing half work es cs s) (step_at steps k))
       (grown : Grown s es' cs' turn) where
     next_step : answer ≡ and_then (turn_of half work' es' cs' turn) (λ next. all_steps w (length es₀) (length cs₀) (steps_from steps (k + 1)) next)
@@ -55,11 +56,11 @@ module _ (w steps : List ℕ) (half : ℕ) (work₀ es₀ cs₀ work es cs : Lis
         ∙ ap (λ (ts : List Step). all_steps w (length es₀) (length cs₀) ts (standing half work es cs s)) (steps_next steps k (omega arith))
         ∙ rw (one, run.same_es, run.same_cs)
 
-    pub run_refused : (number : ℕ) → turn ≡ Refused number → (turn_of half work' es' cs' (Refused number) ≡ answer) × Ended es' cs' (Refused number)
+    pub run_refused : (r : Refusal) → turn ≡ Err r → (turn_of half work' es' cs' (Err r) ≡ answer) × Ended es' cs' (Err r)
     unfolding turn_of and_then Ended
-    run_refused number h = (sym (next_step ∙ rw h), tt)
+    run_refused r h = (sym (next_step ∙ rw h), tt)
 
-    pub run_goes : (next : State) → turn ≡ Going next → length work' ≡ length work → length es' ≡ length es → length cs' ≡ length cs
+    pub run_goes : (next : State) → turn ≡ Ok next → length work' ≡ length work → length es' ≡ length es → length cs' ≡ length cs
         → Running w steps half work₀ es₀ cs₀ work' es' cs' next (k + 1)
     unfolding turn_of and_then Grown
     run_goes next h kw ke kc =
@@ -83,10 +84,10 @@ module _ (w steps : List ℕ) (half : ℕ) (work₀ es₀ cs₀ work es cs : Lis
     stack_long : length (take s.height work) ≡ s.height
     stack_long = length-take-le s.height work (omega (arith, run.low, run.so_far, run.same_work))
 
-    pub run_18 : ¬ (s.height ≡ 1) → (turn_of half work es cs (Refused 18) ≡ answer) × Ended es cs (Refused 18)
+    pub run_18 : ¬ (s.height ≡ 1) → (turn_of half work es cs (Err BadStack) ≡ answer) × Ended es cs (Err BadStack)
     unfolding turn_of all_steps Ended
     run_18 h = (sym (sym run.to_come ∙ rw (no_more, stack_long, eqb_no s.height 1 h)), tt)
 
-    pub run_done : s.height ≡ 1 → (turn_of half work es cs (Going s) ≡ answer) × Ended es cs (Going s)
+    pub run_done : s.height ≡ 1 → (turn_of half work es cs (Ok s) ≡ answer) × Ended es cs (Ok s)
     unfolding turn_of all_steps Ended
     run_done h = (sym (sym run.to_come ∙ rw (no_more, stack_long, eqb_yes s.height 1 h)), run.store_ok)

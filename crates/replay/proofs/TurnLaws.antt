@@ -10,14 +10,12 @@ use borrow.Author.Tests.{lt-ltb, le-ltb}
 use Rattle.laws.specs.Lists.{part_length}
 use Rattle.defs.specs.Table.{header_size, stmt_size, statements, statement_words, hyp_count_in, hyp_count, max_references}
 use Rattle.defs.specs.Replay.{Turn}
-use Rattle.table.specs.declared.numbers.EntryNo.{EntryNo}
 use Rattle.table.specs.Records.{StatementIn}
-use Rattle.store.specs.declared.place.Store.{Store}
 use Rattle.store.specs.declared.place.Placed.{Placed}
-use Rattle.store.specs.declared.place.Placed.TheVariants.{At, NoRoom}
 use Rattle.store.specs.Places.{place, place_of, Kept}
 use Rattle.replay.specs.declared.turn.State.{State}
-use Rattle.replay.specs.declared.turn.Turn.TheVariants.{Refused, Going}
+use Rattle.std.specs.Prelude.{Option, Some, None, Ok, Err}
+use Rattle.answers.specs.declared.refusals.Refusal.TheVariants.{ShortOutput, BadStack}
 use Rattle.replay.specs.Stack.{Pushed}
 use Rattle.replay.specs.Turns.{Readable, standing, turn_of, Grown, after_place, normal_turn}
 
@@ -37,11 +35,11 @@ module _ (w work es cs : List ℕ) (half : ℕ) (s : State) (k mark count : ℕ)
   stack_long : length (take s.height work) ≡ s.height
   stack_long = length-take-le s.height work there
 
-  pub turn_18 : s.height < count → (turn_of half work es cs (Refused 18) ≡ answer) × Grown s es cs (Refused 18)
+  pub turn_18 : s.height < count → (turn_of half work es cs (Err BadStack) ≡ answer) × Grown s es cs (Err BadStack)
   unfolding turn_of normal_turn Grown
   turn_18 h = (rw (stack_long, ← is, lt-ltb s.height count h), tt)
 
-  module _ (enough : count ≤ s.height) (es' cs' : List ℕ) (p : Placed)
+  module _ (enough : count ≤ s.height) (es' cs' : List ℕ) (p : Option Placed)
       (found : place_of es' cs' p ≡ place (take s.store.built es) (take s.store.kids cs) (length es) (length cs) k
       (take (s.height - (s.height - count)) (drop (s.height - count) work)))
     where
@@ -55,16 +53,16 @@ module _ (w work es cs : List ℕ) (half : ℕ) (s : State) (k mark count : ℕ)
       unfolding normal_turn
       after = rw (stack_long, ← is, le-ltb s.height count enough, popped_is, left_is, ← found)
 
-      pub turn_15 : p ≡ NoRoom → (turn_of half work es' cs' (Refused 15) ≡ answer) × Grown s es' cs' (Refused 15)
+      pub turn_15 : p ≡ None → (turn_of half work es' cs' (Err ShortOutput) ≡ answer) × Grown s es' cs' (Err ShortOutput)
       unfolding turn_of Grown place_of after_place
       turn_15 h = (sym (after ∙ rw h), tt)
 
-      pub turn_going : (e : EntryNo) (st : Store) (work' : List ℕ) (m : ℕ) → p ≡ At e st → Kept es' cs' p
-          → Pushed half (s.height - count) s.marks e.0 mark work work' m
-          → (turn_of half work' es' cs' (Going (record { store = st; height = s.height - count + 1; marks = m })) ≡ answer)
-          × Grown s es' cs' (Going (record { store = st; height = s.height - count + 1; marks = m }))
+      pub turn_going : (found-at : Placed) (work' : List ℕ) (m : ℕ) → p ≡ Some found-at → Kept es' cs' p
+          → Pushed half (s.height - count) s.marks found-at.entry.0 mark work work' m
+          → (turn_of half work' es' cs' (Ok (record { store = found-at.store; height = s.height - count + 1; marks = m })) ≡ answer)
+          × Grown s es' cs' (Ok (record { store = found-at.store; height = s.height - count + 1; marks = m }))
       unfolding turn_of Grown place_of after_place Kept
-      turn_going e st work' m h kept push = (
+      turn_going found-at work' m h kept push = (
         sym (after ∙ rw (h, push.stack_is, push.named_is)),
         record { store_ok = rw h at kept; height_most = omega arith; marks_most = push.few },
       )

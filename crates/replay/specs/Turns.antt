@@ -1,5 +1,5 @@
 -- One step of a replay over the slices: what they hold as a `Replay` of crate defs, and what a step makes of that.
-use Rattle.std.specs.Prelude.{◌≡◌, List, [], ◌∷◌, ◌++◌, ℕ, ◌+◌, ◌-◌, ◌≤◌, length, take, drop, eqb, ltb}
+use Rattle.std.specs.Prelude.{◌≡◌, List, [], ◌∷◌, ◌++◌, ℕ, ◌+◌, ◌-◌, ◌≤◌, length, take, drop, eqb, ltb, Result, Ok, Err}
 use Rattle.laws.specs.Tools.{pick}
 use Rattle.defs.specs.Table.{word, statements, statement_words, hyp_words, hyp_count}
 use Rattle.defs.specs.Checked.{HeaderOk}
@@ -7,9 +7,9 @@ use Rattle.defs.specs.Sections.{HypsOk}
 use Rattle.defs.specs.Replay.{Replay, Turn, refused, going}
 use Rattle.store.specs.Places.{Place, no_room, placed, place, StoreOk}
 use Rattle.replay.specs.declared.turn.State.{State}
-use Rattle.replay.specs.declared.turn.Turn.TheVariants.{Refused, Going}
+use Rattle.answers.specs.declared.refusals.Refusal.{Refusal}
+use Rattle.answers.specs.Refused.{refusal_number}
 use Rattle.replay.specs.Stack.{Pushed}
-use Rattle.replay.specs.declared.turn.Turn as code
 
 -- what the reader needs of a table: its statements, and so many hypotheses at most
 pub record Readable (w : List ℕ) : Type 0 where
@@ -28,9 +28,9 @@ standing half work es cs s =
       named = take s.marks (drop half work);
     }
 
-unfoldable pub turn_of : (half : ℕ) (work es cs : List ℕ) → code.Turn → Turn
-turn_of half work es cs (Refused k) = refused k
-turn_of half work es cs (Going s) = going (standing half work es cs s)
+unfoldable pub turn_of : (half : ℕ) (work es cs : List ℕ) → Result State Refusal → Turn
+turn_of half work es cs (Err r) = refused (refusal_number r)
+turn_of half work es cs (Ok s) = going (standing half work es cs s)
 
 -- a step pushes one item and gives one mark at most, and leaves what is built in order
 pub record Grew (before : State) (es cs : List ℕ) (s : State) : Type 0 where
@@ -38,14 +38,14 @@ pub record Grew (before : State) (es cs : List ℕ) (s : State) : Type 0 where
   pub height_most : s.height ≤ before.height + 1
   pub marks_most : s.marks ≤ before.marks + 1
 
-unfoldable pub Grown : (before : State) (es cs : List ℕ) → code.Turn → Type 0
-Grown before es cs (Refused k) = Unit {0}
-Grown before es cs (Going s) = Grew before es cs s
+unfoldable pub Grown : (before : State) (es cs : List ℕ) → Result State Refusal → Type 0
+Grown before es cs (Err r) = Unit {0}
+Grown before es cs (Ok s) = Grew before es cs s
 
 -- at the end too
-unfoldable pub Ended : (es cs : List ℕ) → code.Turn → Type 0
-Ended es cs (Refused k) = Unit {0}
-Ended es cs (Going s) = StoreOk es cs s.store
+unfoldable pub Ended : (es cs : List ℕ) → Result State Refusal → Type 0
+Ended es cs (Err r) = Unit {0}
+Ended es cs (Ok s) = StoreOk es cs s.store
 
 -- ---- what a step does once its rules hold
 

@@ -4,7 +4,8 @@ ghost use Rattle.defs.specs.Steps.{step_size};
 ghost use Rattle.defs.specs.Replay.{steps_in, replayed};
 ghost use Rattle.replay.specs.Turns.{Readable, turn_of, Ended};
 
-use crate::turn::{State, Turn, one_step};
+use crate::turn::{State, one_step};
+use answers::Refusal;
 use store::place::Store;
 
 // Starts with no entries and an empty stack. At the end 18, unless exactly one item is on the stack.
@@ -15,7 +16,7 @@ pub fn all_steps(
     work: &mut [u32],
     entries: &mut [u32],
     children: &mut [u32],
-) -> Turn
+) -> Result<State, Refusal>
     requires readable { Readable words.now }
     requires half_value { (step_size * half ≡ length steps.now) × (half + half ≤ length work.old) }
     ensures { (turn_of half work.new entries.new children.new result
@@ -27,20 +28,11 @@ pub fn all_steps(
         height: 0,
         marks: 0,
     };
-    let mut k: usize = 0;
-    while k < half {
-        match one_step(words, steps, k, half, work, entries, children, state) {
-            Turn::Refused(number) => {
-                return Turn::Refused(number);
-            }
-            Turn::Going(next) => {
-                state = next;
-            }
-        }
-        k += 1;
+    for k in 0..half {
+        state = one_step(words, steps, k, half, work, entries, children, state)?;
     }
     if state.height != 1 {
-        return Turn::Refused(18);
+        return Err(Refusal::BadStack);
     }
-    Turn::Going(state)
+    Ok(state)
 }

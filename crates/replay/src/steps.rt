@@ -3,11 +3,9 @@ ghost use Rattle.std.specs.Prelude.{◌≡◌, ◌+◌, ◌*◌, ◌≤◌, leng
 ghost use Rattle.defs.specs.Steps.{step_size};
 ghost use Rattle.replay.specs.Steps.{step_of, step_at, mark_right, kind_right, step_right};
 
-use table::numbers::wide;
+use table::limits::STEP_WORDS;
 
-pub const STEP_WORDS: usize = 5;
-
-#[derive(Clone, Copy)]
+#[derive(Clone, Copy, Debug, PartialEq, Eq)]
 pub struct Step {
     pub reference: u32,
     pub mark: u32,
@@ -31,40 +29,32 @@ pub fn read_step(steps: &[u32], k: usize) -> Step
 }
 
 // A mark must be one more than the marks before that step.
+#[tactic(auto, unfolding(crate::specs::Steps::mark_right))]
 fn mark_right(mark: u32, marks: usize) -> bool
     ensures { result ≡ mark_right marks mark }
 {
-    if mark == 0 {
-        return true;
-    }
-    wide(mark) - 1 == marks
+    mark == 0 || mark as usize - 1 == marks
 }
 
 // A reference must be among those; a statement is below s; unused fields are 0.
+#[tactic(auto, unfolding(crate::specs::Steps::kind_right))]
 fn kind_right(reference: u32, statement: u32, statements: u32, marks: usize) -> bool
     ensures { result ≡ kind_right statements marks reference statement }
 {
     if reference == 0 {
-        return statement < statements;
+        statement < statements
+    } else {
+        reference as usize <= marks && statement == 0
     }
-    if marks < wide(reference) {
-        return false;
-    }
-    statement == 0
 }
 
 // 16 otherwise; explicit fields are 0.
+#[tactic(auto, unfolding(crate::specs::Steps::step_right, laws::specs::Tools::all_of))]
 pub fn step_right(step: Step, statements: u32, marks: usize) -> bool
     ensures { result ≡ step_right statements marks (step_of step) }
 {
-    if !mark_right(step.mark, marks) {
-        return false;
-    }
-    if !kind_right(step.reference, step.statement, statements, marks) {
-        return false;
-    }
-    if step.parent != 0 {
-        return false;
-    }
-    step.index == 0
+    mark_right(step.mark, marks)
+        && kind_right(step.reference, step.statement, statements, marks)
+        && step.parent == 0
+        && step.index == 0
 }

@@ -9,26 +9,22 @@ ghost use Rattle.replay.specs.Turns.{Readable, standing, turn_of, Grown, Referre
 
 use crate::stack::push;
 use crate::steps::{read_step, step_right};
-use store::place::{Placed, Store, find_or_append};
-use table::numbers::wide;
+use answers::Refusal;
+use store::place::{Store, find_or_append};
 use table::sections::statement_section;
 use table::statements::hyp_count;
 use table::{EntryNo, StatementNo};
 
 // Where a replay stands: what is built, the items on the stack, and the marks given.
-#[derive(Clone, Copy)]
+// As it is: (a) no heap. The stack, the marks and what is built are fronts of slices lent by the caller.
+#[derive(Clone, Copy, Debug, PartialEq, Eq)]
 pub struct State {
     pub store: Store,
     pub height: usize,
     pub marks: usize,
 }
 
-#[derive(Clone, Copy)]
-pub enum Turn {
-    Refused(u32),
-    Going(State),
-}
-
+#[tactic(auto, using(crate::proofs::TurnLaws::statement_in, crate::proofs::TurnLaws::hyp_count_is))]
 fn hypotheses_of(words: &[u32], statement: StatementNo) -> usize
     requires readable { Readable words.now }
     requires statement_bound { statement.0 < statements words.now }
@@ -43,14 +39,12 @@ fn refer(reference: u32, mark: u32, half: usize, work: &mut [u32], state: State)
     requires le_reference { (1 ≤ reference) × (reference ≤ state.marks) }
     ensures { Referred reference mark half work.old work.new state result }
 {
-    let named = half + (wide(reference) - 1);
-    let height = state.height;
-    let store = state.store;
+    let named = half + (reference as usize - 1);
     let e = EntryNo(work[named]);
-    let marks = push(work, half, height, state.marks, e, mark);
+    let marks = push(work, half, state.height, state.marks, e, mark);
     State {
-        store,
-        height: height + 1,
+        store: state.store,
+        height: state.height + 1,
         marks,
     }
 }
@@ -65,7 +59,7 @@ fn normal_step(
     entries: &mut [u32],
     children: &mut [u32],
     state: State,
-) -> Turn
+) -> Result<State, Refusal>
     requires readable { Readable words.now }
     requires statement_bound { statement.0 < statements words.now }
     requires height_lt_half { (state.height < half) × ((state.marks < half) × (half + half ≤ length work.old)) }
@@ -78,7 +72,7 @@ fn normal_step(
     let count = hypotheses_of(words, statement);
     let height = state.height;
     if height < count {
-        return Turn::Refused(18);
+        return Err(Refusal::BadStack);
     }
     let from = height - count;
     let place = find_or_append(
@@ -88,18 +82,17 @@ fn normal_step(
         children,
         state.store,
     );
-    let Placed::At(e, store) = place else {
-        return Turn::Refused(15);
-    };
-    let marks = push(work, half, from, state.marks, e, mark);
-    Turn::Going(State {
-        store,
+    let placed = place.ok_or(Refusal::ShortOutput)?;
+    let marks = push(work, half, from, state.marks, placed.entry, mark);
+    Ok(State {
+        store: placed.store,
         height: from + 1,
         marks,
     })
 }
 
 // Step k of the list: per step 16, 18, 15.
+// As it is: (d) a struct of the three lent slices asks of each function that takes it that each field is the slice lent.
 pub fn one_step(
     words: &[u32],
     steps: &[u32],
@@ -109,7 +102,7 @@ pub fn one_step(
     entries: &mut [u32],
     children: &mut [u32],
     state: State,
-) -> Turn
+) -> Result<State, Refusal>
     requires readable { Readable words.now }
     requires step_size_in_bounds { step_size * k + step_size ≤ length steps.now }
     requires height_lt_half { (state.height < half) × ((state.marks < half) × (half + half ≤ length work.old)) }
@@ -122,12 +115,11 @@ pub fn one_step(
     let step = read_step(steps, k);
     let statements = words[0];
     if !step_right(step, statements, state.marks) {
-        return Turn::Refused(16);
+        return Err(Refusal::BadList);
     }
     let reference = step.reference;
     if reference != 0 {
-        let next = refer(reference, step.mark, half, work, state);
-        return Turn::Going(next);
+        return Ok(refer(reference, step.mark, half, work, state));
     }
     let statement = StatementNo(step.statement);
     normal_step(

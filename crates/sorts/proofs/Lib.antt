@@ -1,2 +1,3 @@
 -- Laws that speak of no function.
+pub mod Ascending
 pub mod Sorting

@@ -1,6 +1,7 @@
 -- The words of steps, laid one after the other: what a loop over the steps keeps, its start, a turn and its end.
 -- The words are by the sections of a table; at the end they are document 01's words of the table's steps.
 use mathlib.Core.Path.{◌≡◌, refl, sym, ap, ap₂, ◌∙◌}
+use Rattle.std.specs.Prelude.{Option}
 use mathlib.Core.Bool.{Bool}
 use mathlib.Core.List.{List, [], ◌∷◌, ◌++◌, map}
 use Prim.Native.Nat.{ℕ, ◌+◌, ◌*◌, ◌≤◌}
@@ -25,14 +26,14 @@ use Rattle.steptexts.proofs.Lent.{Lent}
 -- ---- by the sections
 
 -- the bytes of a step's word, where `number` gives the numbers that name its mark and reference
-abbrev pub word_in : (ss hs b : List ℕ) (thm : ℕ) (explicit : Bool) (number : ℕ → ℕ) → Step → List ℕ
+abbrev pub word_in : (ss hs b : List ℕ) (thm : ℕ) (explicit : Bool) (number : ℕ → Option ℕ) → Step → List ℕ
 word_in ss hs b thm explicit number t = spelled b (word_for ss hs thm explicit number t)
 
 -- from a line on, the words of these steps are laid
-pub record Laid (ss hs b : List ℕ) (thm : ℕ) (explicit : Bool) (number : ℕ → ℕ) (l : Layout) (ts : List Step) (line next : End) (before after : List ℕ) : Type 0 where
+pub record Laid (ss hs b : List ℕ) (thm : ℕ) (explicit : Bool) (number : ℕ → Option ℕ) (l : Layout) (ts : List Step) (line next : End) (before after : List ℕ) : Type 0 where
   pub laid : Lays (λ s. put_words l s (map (word_in ss hs b thm explicit number) ts)) (most_laid * length ts) line next before after
 
-module _ {ss hs b : List ℕ} {thm : ℕ} {explicit : Bool} {number : ℕ → ℕ} {l : Layout} where
+module _ {ss hs b : List ℕ} {thm : ℕ} {explicit : Bool} {number : ℕ → Option ℕ} {l : Layout} where
   pub none_laid : (line : End) (out : List ℕ) → Laid ss hs b thm explicit number l [] line line out out
   unfolding put_words
   none_laid line out = record { laid = lays_as (lays_none line out) _ _ (λ s. refl) (omega arith) }
@@ -58,7 +59,7 @@ module _ {ss hs b : List ℕ} {thm : ℕ} {explicit : Bool} {number : ℕ → �
 
 -- ---- of a table
 
-module _ (w b : List ℕ) (ok : table_refusal w b ≡ 0) (explicit : Bool) (number : ℕ → ℕ) (m : ℕ) (names : (k : ℕ) → k ≤ m → NameIs w b k (number k)) where
+module _ (w b : List ℕ) (ok : table_refusal w b ≡ 0) (explicit : Bool) (number : ℕ → Option ℕ) (m : ℕ) (names : (k : ℕ) → k ≤ m → NameIs w b k (number k)) where
   words_are : (ts : List Step) → All (StepSound w m) ts → map (word_in (statement_words w) (hyp_words w) b (theorem w) explicit number) ts ≡ map (step_word w b explicit) ts
   words_are [] a = refl
   words_are (t ∷ ts) a =

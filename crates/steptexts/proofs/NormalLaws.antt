@@ -1,6 +1,7 @@
 -- The normal text of a table: of all the steps to come some are laid and the others are left in the stack. A turn takes the next.
 -- A list that test 13 lets pass has at most 1,000,000 steps, so nothing wraps.
 use mathlib.Core.Path.{◌≡◌, refl, sym, ap, ◌∙◌, subst}
+use Rattle.std.specs.Prelude.{Option, None}
 use mathlib.Core.Bool.{Bool}
 use mathlib.Core.List.{List, [], ◌∷◌, ◌++◌, append-nil, append_assoc}
 use Prim.Native.Nat.{ℕ, ◌+◌, ◌*◌, ◌≤◌, ◌<◌}
@@ -34,8 +35,8 @@ use Rattle.steptexts.proofs.Lent.{Lent, Entered}
 use Rattle.steptexts.proofs.Laying.{Laid, none_laid, one_laid, laid_near, all_printed}
 
 -- no step has a name
-abbrev pub unnamed : ℕ → ℕ
-unnamed m = 0
+abbrev pub unnamed : ℕ → Option ℕ
+unnamed m = None
 
 -- of the steps left at first, those in `done` are laid and the others are left now
 pub record Walked (ss hs b : List ℕ) (thm : ℕ) (explicit : Bool) (l : Layout) (es cs : List ℕ) (first line : End) (before after stack₀ : List ℕ) (depth₀ : ℕ) (stack : List ℕ) (depth : ℕ) : Type 0 where
@@ -108,12 +109,12 @@ module _ {w b : List ℕ} {room : ℕ} {ss hs : List ℕ} {thm : ℕ} {es cs : L
           rw (h.lent.statements_are, h.lent.hyps_are, h.lent.theorem_is)
           (statement_in w b h.ready.ok _ next_sound.fits.stmt_below, hyp_ready w b h.ready.ok _ _ next_sound.hyp)
 
-      pub word_in : {v : Word} → v ≡ word_of ss hs thm explicit 0 0 statement (parent_of hyp) (index_of hyp) → WordInside b v
+      pub word_in : {v : Word} → v ≡ word_of ss hs thm explicit None None statement (parent_of hyp) (index_of hyp) → WordInside b v
       word_in e =
-          rw (e, h.lent.statements_are, h.lent.hyps_are, h.lent.theorem_is) (word_inside w b h.ready.ok next 0 next_sound explicit 0 0)
+          rw (e, h.lent.statements_are, h.lent.hyps_are, h.lent.theorem_is) (word_inside w b h.ready.ok next 0 next_sound explicit None None)
 
       -- and it is laid
-      pub turn : {v : Word} {last : End} {after : List ℕ} → v ≡ word_of ss hs thm explicit 0 0 statement (parent_of hyp) (index_of hyp)
+      pub turn : {v : Word} {last : End} {after : List ℕ} → v ≡ word_of ss hs thm explicit None None statement (parent_of hyp) (index_of hyp)
           → Lays (λ s. put_word l s (spelled b v)) most_laid line last between after
           → Walked ss hs b thm explicit l es cs first last before after stack₀ 1 stack' depth'
       turn e one = record { done = k.done ++ (next ∷ []); laid = one_laid next k.laid (rw e at one); rest = more; stacked = s.stacked }

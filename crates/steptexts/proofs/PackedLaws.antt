@@ -7,12 +7,10 @@ use Prim.Native.Nat.{ℕ, ◌+◌, ◌*◌, ◌≤◌, ◌<◌}
 use native.Mathlib.Omega.{arith}
 use Rattle.laws.specs.Lists.{all_at, eqb_yes, eqb_no}
 use Rattle.laws.specs.Puts.{farthest}
-use Rattle.defs.specs.Table.{entries, max_child_refs, statements, statement_words}
+use Rattle.defs.specs.Table.{entries, max_child_refs}
 use Rattle.defs.specs.Checked.{header}
 use Rattle.defs.specs.Laws.{good}
 use Rattle.defs.specs.Layout.{Layout, begin, put_word}
-use Rattle.defs.specs.Names.{name}
-use Rattle.defs.specs.NameLaws.{name_least}
 use Rattle.defs.specs.Steps.{step_size}
 use Rattle.defs.specs.Text.{packed_of, end_word, steps_text}
 use Rattle.lengths.proofs.Bound.{packed_most}
@@ -38,12 +36,11 @@ module _ {w b : List ℕ} {explicit : Bool} {steps many names : ℕ} {ws : List 
       (all_at (StepSound w (entries w)) (packed_of w explicit) _ (packed_sound w b r.ok explicit) i (omega (arith, r.as_many)))
 
   names_are : (k : ℕ) → k ≤ entries w → NameIs w b k (number_at ws names k)
-  unfolding number_at name
+  unfolding number_at
   names_are k h =
       record {
         none = λ e. rw (eqb_yes k 0 e);
-        some = λ e. rw (eqb_no k 0 e, r.named k (omega arith) h) (λ z. omega (arith, name_least (statement_words w) b (statements w) k));
-        named = λ e. rw (eqb_no k 0 e, r.named k (omega arith) h);
+        some = λ e. rw (eqb_no k 0 e, r.named k (omega arith) h);
       }
 
   module _ {ss hs : List ℕ} {thm : ℕ} (lent : Lent w ss hs thm) where

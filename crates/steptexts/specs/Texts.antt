@@ -1,5 +1,5 @@
 -- Steps in a slice of words and their words by the sections of a table; what the texts require, and what they leave.
-use Rattle.std.specs.Prelude.{◌≡◌, Bool, true, false, List, ℕ, ◌+◌, ◌*◌, ◌≤◌, ◌<◌, length, eqb}
+use Rattle.std.specs.Prelude.{◌≡◌, Option, Some, None, Bool, true, false, List, ℕ, ◌+◌, ◌*◌, ◌≤◌, ◌<◌, length, eqb}
 use native.Mathlib.Omega.{arith}
 use Rattle.laws.specs.Tools.{pick, part, over}
 use Rattle.defs.specs.Table.{word, entries}
@@ -17,16 +17,16 @@ use Rattle.words.specs.Spelled.{HypReady, word_of}
 
 -- ---- one step
 
--- the number that names mark m, m words past `names`; 0 for no mark
-unfoldable pub number_at : (ws : List ℕ) (names m : ℕ) → ℕ
-number_at ws names m = pick (eqb m 0) 0 (word ws (names + m))
+-- the number that names mark m, m words past `names`; none for no mark
+unfoldable pub number_at : (ws : List ℕ) (names m : ℕ) → Option ℕ
+number_at ws names m = pick (eqb m 0) None (Some (word ws (names + m)))
 
 -- the step at a place
 abbrev pub step_at : List ℕ → ℕ → Step
 step_at ws at = step (word ws at) (word ws (at + 1)) (word ws (at + 2)) (word ws (at + 3)) (word ws (at + 4))
 
 -- its word by the sections of a table, where `number` gives the numbers that name its mark and reference
-abbrev pub word_for : (ss hs : List ℕ) (theorem : ℕ) (explicit : Bool) (number : ℕ → ℕ) → Step → Word
+abbrev pub word_for : (ss hs : List ℕ) (theorem : ℕ) (explicit : Bool) (number : ℕ → Option ℕ) → Step → Word
 word_for ss hs theorem explicit number t = word_of ss hs theorem explicit (number t.mark) (number t.ref) t.stmt t.parent t.index
 
 -- what its word asks of the step at a place

@@ -7,12 +7,11 @@ ghost use Rattle.steptexts.specs.Texts.{PackedReady};
 use names::marks::mark_names;
 use packing::pack::pack;
 use table::header::read_header;
-use table::numbers::wide;
+use table::limits::STEP_WORDS;
 use table::sections::statement_section;
-use walk::steps::STEP_WORDS;
 
 // Where they stand: the first step, how many there are, and the names.
-#[derive(Clone, Copy)]
+#[derive(Clone, Copy, Debug, PartialEq, Eq)]
 pub struct Places {
     pub steps: usize,
     pub many: usize,
@@ -28,7 +27,7 @@ pub fn pack_named(words: &[u32], labels: &[u8], explicit: bool, work: &mut [u32]
     let header = read_header(words);
     let end = pack(words, work, explicit, header.qed);
     let statements = statement_section(words);
-    let count = wide(header.entries);
+    let count = header.entries as usize;
     mark_names(statements, labels, count, &mut work[end..]);
     let steps = count + 1;
     Places {

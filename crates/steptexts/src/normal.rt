@@ -9,7 +9,7 @@ use layout::Layout;
 use layout::lines::close;
 use table::header::read_header;
 use table::sections::{child_section, entry_section, hyp_section, statement_section};
-use walk::normal::{Taken, begin, next};
+use walk::normal::{begin, next};
 use words::word::{plain_word, put_step_word};
 
 // The text of the normal list from QED; where it ends. A step of it has no mark and is no reference.
@@ -34,19 +34,18 @@ pub fn normal_text(
     begin(entries, children, stack, header.qed);
     let mut line = layout::lines::begin(layout, out);
     let mut depth: usize = 1;
-    loop {
-        let taken = next(entries, children, stack, explicit, depth);
-        let Taken::Step {
-            statement,
-            hyp,
-            depth: below,
-        } = taken
-        else {
-            let last = close(layout, line, out);
-            return last.end;
-        };
-        let word = plain_word(statements, hyps, header.theorem, explicit, statement, hyp);
+    while let Some(taken) = next(entries, children, stack, explicit, depth) {
+        let word = plain_word(
+            statements,
+            hyps,
+            header.theorem,
+            explicit,
+            taken.statement,
+            taken.hyp,
+        );
         line = put_step_word(layout, line, labels, word, out);
-        depth = below;
+        depth = taken.depth;
     }
+    let last = close(layout, line, out);
+    last.end
 }

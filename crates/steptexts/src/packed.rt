@@ -6,26 +6,26 @@ ghost use Rattle.layout.specs.Layouts.{layout_of};
 ghost use Rattle.walk.specs.Hyps.{parent_of, index_of};
 ghost use Rattle.steptexts.specs.Texts.{number_at, step_at, word_for, WordReady, Printed, PackedReady};
 
+use crate::named::Places;
 use layout::Layout;
 use layout::lines::{begin, close};
 use table::StatementNo;
 use table::header::read_header;
-use table::numbers::wide;
+use table::limits::STEP_WORDS;
 use table::sections::{hyp_section, statement_section};
 use walk::hyps::ParentHyp;
-use walk::steps::STEP_WORDS;
 use words::Word;
 use words::word::{put_step_word, step_word};
 
-// The number that names a mark: that of mark m stands m words past `names`. No mark has none.
-fn name_number(work: &[u32], names: usize, m: u32) -> u32
+// The number that names mark m stands m words past `names`. Mark 0 is no mark.
+fn name_number(work: &[u32], names: usize, m: u32) -> Option<u32>
     requires { names + m < length work.now }
     ensures { result ≡ number_at work.now names m }
 {
     if m == 0 {
-        return 0;
+        return None;
     }
-    work[names + wide(m)]
+    Some(work[names + m as usize])
 }
 
 // The parent hypothesis that the last two words of a step say.
@@ -65,20 +65,18 @@ fn packed_word(
     )
 }
 
-// The text of the packed list, `many` steps from `steps` on; where it ends.
+// The text of the packed list, from where it and the names of its marks stand; where it ends.
 pub fn packed_text(
     words: &[u32],
     labels: &[u8],
     layout: Layout,
     explicit: bool,
     work: &[u32],
-    steps: usize,
-    many: usize,
-    names: usize,
+    places: Places,
     out: &mut [u8],
 ) -> usize
     requires layout_value { bad8 (layout_of layout) ≡ false }
-    requires packed_ready { PackedReady words.now labels.now explicit steps many names work.now }
+    requires packed_ready { PackedReady words.now labels.now explicit places.steps places.many places.names work.now }
     ensures { Printed (steps_text words.now labels.now (layout_of layout) explicit (packed_of words.now explicit)) result
         out.old out.new }
 {
@@ -86,12 +84,18 @@ pub fn packed_text(
     let statements = statement_section(words);
     let hyps = hyp_section(words);
     let mut line = begin(layout, out);
-    let mut i: usize = 0;
-    while i < many {
-        let at = steps + STEP_WORDS * i;
-        let word = packed_word(statements, hyps, header.theorem, explicit, work, at, names);
+    for i in 0..places.many {
+        let at = places.steps + STEP_WORDS * i;
+        let word = packed_word(
+            statements,
+            hyps,
+            header.theorem,
+            explicit,
+            work,
+            at,
+            places.names,
+        );
         line = put_step_word(layout, line, labels, word, out);
-        i += 1;
     }
     let last = close(layout, line, out);
     last.end

@@ -1,47 +1,26 @@
 -- Laws of an entry's place: the tests of its room, the words of an entry appended, and what the two outputs are after each return.
 -- Assumes nothing.
 use mathlib.Core.Path.{◌≡◌, ap, ◌∙◌}
-use mathlib.Core.Bool.{Bool, true, false, not, ◌||◌}
+use mathlib.Core.Bool.{Bool, true, false, ◌||◌}
 use mathlib.Core.List.{List, [], ◌∷◌, ◌++◌}
-use Prim.Native.Nat.{ℕ, suc, ◌+◌, ◌*◌, ◌/◌, ◌≤◌, ◌<◌}
+use Prim.Native.Nat.{ℕ, suc, ◌+◌, ◌*◌, ◌/◌, ◌≤◌}
 use native.Mathlib.Decide.{dec_lt}
 use native.Mathlib.Omega.{arith}
 use lib.ListN.{length, take, drop, set, length-append, get_or-append}
 use lib.Seq.{length-take-le, take_at, sets, sets-eq, get_or-append-add}
-use lib.Dec.{ltb, leb}
-use borrow.Author.Tests.{lt-ltb, le-ltb, ltb-false, le-leb, lt-leb}
+use lib.Dec.{ltb}
+use borrow.Author.Tests.{lt-ltb, le-ltb, ltb-false}
 use Rattle.laws.specs.Lists.{or_no}
 use Rattle.defs.specs.Table.{entry_size, max_entries, max_child_refs}
 use Rattle.defs.specs.Replay.{lookup}
 use Rattle.store.specs.declared.place.Store.{Store}
-use Rattle.store.specs.declared.place.Placed.TheVariants.{At, NoRoom}
-use Rattle.store.specs.Store.{holding, BuiltOk, full, lookup_most}
+use Rattle.std.specs.Prelude.{Option, Some, None}
+use Rattle.table.specs.declared.numbers.EntryNo.{EntryNo}
+use Rattle.store.proofs.LookupLaws.{entry_found, entry_missing}
+use Rattle.store.specs.Store.{holding, BuiltOk, full, entry_below, lookup_most}
 use Rattle.store.specs.Places.{Place, place, place_of, StoreOk, Kept, Appended}
 
 -- ---- room
-
-leb_not : (a b : ℕ) → leb a b ≡ not (ltb b a)
-leb_not a b = elim (dec_lt b a) [ yes h ↦ rw (lt-leb a b h, lt-ltb b a h) | no h ↦ rw (le-leb a b (omega arith), le-ltb b a (omega arith)) ]
-
-module _ (rb rk built kids count : ℕ) where
-  pub full_1 : rb < built + entry_size → false ≡ not (full rb rk built kids count)
-  unfolding full
-  full_1 h = rw (lt-ltb rb (built + entry_size) h)
-
-  module _ (h1 : built + entry_size ≤ rb) where
-    pub full_2 : rk < kids + count → false ≡ not (full rb rk built kids count)
-    unfolding full
-    full_2 h = rw (le-ltb rb (built + entry_size) h1, lt-ltb rk (kids + count) h)
-
-    module _ (h2 : kids + count ≤ rk) where
-      pub full_3 : max_entries < built / entry_size + 1 → false ≡ not (full rb rk built kids count)
-      unfolding full
-      full_3 h = rw (le-ltb rb (built + entry_size) h1, le-ltb rk (kids + count) h2, lt-ltb max_entries (built / entry_size + 1) h)
-
-      pub full_4 : built / entry_size + 1 ≤ max_entries → leb (kids + count) max_child_refs ≡ not (full rb rk built kids count)
-      unfolding full
-      full_4 h =
-          rw (le-ltb rb (built + entry_size) h1, le-ltb rk (kids + count) h2, le-ltb max_entries (built / entry_size + 1) h) (leb_not (kids + count) max_child_refs)
 
 -- where there is room
 pub record Roomy (rb rk built kids count : ℕ) : Type 0 where
@@ -76,13 +55,6 @@ entry_words_lem es at k kids len h =
     let e2 : at + 2 ≡ suc (suc at) = omega arith in
     rw (e1, e2) (take_sets (k ∷ kids ∷ len ∷ []) es at h)
 
-pub copied : (cs wanted cs' : List ℕ) (at : ℕ) → at + length wanted ≤ length cs → cs' ≡ take at cs ++ wanted ++ drop (at + length wanted) cs
-    → take (at + length wanted) cs' ≡ take at cs ++ wanted
-copied cs wanted cs' at h e =
-    rw e
-    (take_at (take at cs ++ wanted) (drop (at + length wanted) cs) (at + length wanted)
-    (length-append (take at cs) wanted ∙ ap (λ (n : ℕ). n + length wanted) (length-take-le at cs (omega arith))))
-
 -- its children stand inside too
 pub more_ok : (built kids wanted : List ℕ) (k n : ℕ) → BuiltOk built kids → length built ≡ entry_size * n → n + 1 ≤ max_entries
     → BuiltOk (built ++ k ∷ length kids ∷ length wanted ∷ []) (kids ++ wanted)
@@ -108,10 +80,15 @@ more_ok built kids wanted k n ok whole few =
 pub few_built : (es cs : List ℕ) (s : Store) → StoreOk es cs s → s.built ≤ entry_size * max_entries
 few_built es cs s ok = omega (arith, length-take-le s.built es ok.built_room, ok.ok.few)
 
-module _ (es cs : List ℕ) (s : Store) (ok : StoreOk es cs s) (k : ℕ) (wanted : List ℕ) (found : ℕ)
-    (is : found ≡ lookup (holding (take s.built es) (take s.kids cs)) k wanted) where
+module _ (es cs : List ℕ) (s : Store) (ok : StoreOk es cs s) (k : ℕ) (wanted : List ℕ) where
   abbrev answer : Place
   answer = place (take s.built es) (take s.kids cs) (length es) (length cs) k wanted
+
+  abbrev searched : ℕ
+  searched = lookup (holding (take s.built es) (take s.kids cs)) k wanted
+
+  abbrev found : Option EntryNo
+  found = entry_below (length (take s.built es) / entry_size) searched
 
   built_long : length (take s.built es) ≡ s.built
   built_long = length-take-le s.built es ok.built_room
@@ -119,19 +96,24 @@ module _ (es cs : List ℕ) (s : Store) (ok : StoreOk es cs s) (k : ℕ) (wanted
   kids_long : length (take s.kids cs) ≡ s.kids
   kids_long = length-take-le s.kids cs ok.kids_room
 
-  pub at_found : found < s.built / entry_size → (place_of es cs (At (record { 0 = found }) s) ≡ answer) × Kept es cs (At (record { 0 = found }) s)
+  pub at_found : (e : EntryNo) → Some e ≡ found → (place_of es cs (Some (record { entry = e; store = s })) ≡ answer) × Kept es cs (Some (record { entry = e; store = s }))
   unfolding place place_of Kept
-  at_found h = (rw (built_long, ← is, lt-ltb found (s.built / entry_size) h), ok)
+  at_found e is =
+      let p = entry_found _ searched e is in
+      (rw (p.1, lt-ltb searched (length (take s.built es) / entry_size) p.0), ok)
 
-  module _ (none : s.built / entry_size ≤ found) where
-    pub at_none : full (length es) (length cs) s.built s.kids (length wanted) ≡ true → (place_of es cs NoRoom ≡ answer) × Kept es cs NoRoom
+  module _ (is : None ≡ found) where
+    none : s.built / entry_size ≤ searched
+    none = rw built_long at (entry_missing (length (take s.built es) / entry_size) searched is)
+
+    pub at_none : full (length es) (length cs) s.built s.kids (length wanted) ≡ true → (place_of es cs None ≡ answer) × Kept es cs None
     unfolding place place_of Kept
-    at_none h = (rw (built_long, kids_long, ← is, le-ltb found (s.built / entry_size) none, h), tt)
+    at_none h = (rw (built_long, kids_long, le-ltb searched (s.built / entry_size) none, h), tt)
 
     module _ (room : full (length es) (length cs) s.built s.kids (length wanted) ≡ false) (es' cs' : List ℕ) (r : Store)
         (more : Appended k wanted es cs s es' cs' r) (same_es : length es' ≡ length es) (same_cs : length cs' ≡ length cs) where
-      last : found ≡ s.built / entry_size
-      last = omega (arith, lookup_most (take s.built es) (take s.kids cs) k wanted, built_long)
+      last : searched ≡ s.built / entry_size
+      last = omega (arith, none, lookup_most (take s.built es) (take s.kids cs) k wanted, built_long)
 
       more_are : BuiltOk (take r.built es') (take r.kids cs')
       more_are =
@@ -139,11 +121,12 @@ module _ (es cs : List ℕ) (s : Store) (ok : StoreOk es cs s) (k : ℕ) (wanted
           rw (more.entries_are, more.children_are)
           (rw kids_long at (more_ok (take s.built es) (take s.kids cs) wanted k (s.built / entry_size) ok.ok (built_long ∙ ok.whole) fits.entries_few))
 
-      pub at_end : (place_of es' cs' (At (record { 0 = s.built / entry_size }) r) ≡ answer) × Kept es' cs' (At (record { 0 = s.built / entry_size }) r)
+      pub at_end : (place_of es' cs' (Some (record { entry = record { 0 = s.built / entry_size }; store = r })) ≡ answer)
+          × Kept es' cs' (Some (record { entry = record { 0 = s.built / entry_size }; store = r }))
       unfolding place place_of Kept
       at_end =
           let fits = roomy (length es) (length cs) s.built s.kids (length wanted) room in (
-            rw (built_long, kids_long, ← is, le-ltb found (s.built / entry_size) none, room, more.entries_are, more.children_are, last),
+            rw (built_long, kids_long, le-ltb searched (s.built / entry_size) none, room, more.entries_are, more.children_are, last),
             record {
               built_room = omega (arith, more.built_is, fits.entries_fit);
               kids_room = omega (arith, more.kids_is, fits.children_fit);

@@ -1,11 +1,10 @@
 -- Where an entry is put: at an exactly equal one, behind the entries built, or nowhere; and the two outputs after it.
-use Rattle.std.specs.Prelude.{◌≡◌, List, [], ◌∷◌, ◌++◌, ℕ, ◌+◌, ◌*◌, ◌/◌, ◌≤◌, length, take, ltb}
+use Rattle.std.specs.Prelude.{◌≡◌, List, [], ◌∷◌, ◌++◌, ℕ, ◌+◌, ◌*◌, ◌/◌, ◌≤◌, length, take, ltb, Option, Some, None}
 use Rattle.laws.specs.Tools.{pick}
 use Rattle.defs.specs.Table.{entry_size, max_child_refs}
 use Rattle.defs.specs.Replay.{lookup}
 use Rattle.store.specs.declared.place.Store.{Store}
 use Rattle.store.specs.declared.place.Placed.{Placed}
-use Rattle.store.specs.declared.place.Placed.TheVariants.{At, NoRoom}
 use Rattle.store.specs.Store.{holding, BuiltOk, full}
 
 -- no room, or the entry's number, and the entries and children as they then are
@@ -21,9 +20,9 @@ place built kids roomBuilt roomKids k wanted =
     (placed (built ++ k ∷ length kids ∷ length wanted ∷ []) (kids ++ wanted) e))
 
 -- what the code answers, with what the two outputs hold
-unfoldable pub place_of : (es cs : List ℕ) → Placed → Place
-place_of es cs (At e s) = placed (take s.built es) (take s.kids cs) e.0
-place_of es cs NoRoom = no_room
+unfoldable pub place_of : (es cs : List ℕ) → Option Placed → Place
+place_of es cs (Some p) = placed (take p.store.built es) (take p.store.kids cs) p.entry.0
+place_of es cs None = no_room
 
 -- what is built stands at the front of the two outputs
 pub record StoreOk (es cs : List ℕ) (s : Store) : Type 0 where
@@ -34,9 +33,9 @@ pub record StoreOk (es cs : List ℕ) (s : Store) : Type 0 where
   pub ok : BuiltOk (take s.built es) (take s.kids cs)
 
 -- and still does after an entry has its place
-unfoldable pub Kept : (es cs : List ℕ) → Placed → Type 0
-Kept es cs (At e s) = StoreOk es cs s
-Kept es cs NoRoom = Unit {0}
+unfoldable pub Kept : (es cs : List ℕ) → Option Placed → Type 0
+Kept es cs (Some p) = StoreOk es cs p.store
+Kept es cs None = Unit {0}
 
 -- the outputs with one entry more
 pub record Appended (k : ℕ) (wanted es cs : List ℕ) (s : Store) (es' cs' : List ℕ) (r : Store) : Type 0 where

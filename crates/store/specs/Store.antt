@@ -1,11 +1,12 @@
 -- Entries as a replay builds them in its two outputs: what is built so far, and what finding or appending an entry makes of it.
-use Rattle.std.specs.Prelude.{◌≡◌, refl, Bool, ◌&&◌, ◌||◌, List, [], ℕ, ◌+◌, ◌*◌, ◌/◌, ◌≤◌, ◌<◌, length, eqb, ltb}
+use Rattle.std.specs.Prelude.{◌≡◌, refl, Bool, ◌&&◌, ◌||◌, List, [], ℕ, ◌+◌, ◌*◌, ◌/◌, ◌≤◌, ◌<◌, length, eqb, ltb, Option, Some, None}
 use Rattle.std.proofs.Common.{arith}
-use Rattle.laws.specs.Tools.{same, first_from}
+use Rattle.laws.specs.Tools.{pick, same, first_from}
 use Rattle.laws.specs.Below.{first_high}
 use Rattle.defs.specs.Table.{entry_size, max_entries, max_child_refs, entry_stmt_in, child_start_in, child_count_in, children_in}
 use Rattle.defs.specs.Graph.{graph_in}
 use Rattle.defs.specs.Replay.{Replay, lookup}
+use Rattle.table.specs.declared.numbers.EntryNo.{EntryNo}
 
 -- a replay of which only the entries matter
 abbrev pub holding : (built kids : List ℕ) → Replay
@@ -19,6 +20,10 @@ pub record BuiltOk (built kids : List ℕ) : Type 0 where
 -- entry e is the one asked for: its statement and its children
 unfoldable pub is_entry : (built kids : List ℕ) (k : ℕ) (wanted : List ℕ) → ℕ → Bool
 is_entry built kids k wanted e = eqb (entry_stmt_in built e) k && same (children_in built kids e) wanted
+
+-- the entry with this number, where there is one
+unfoldable pub entry_below : (n e : ℕ) → Option EntryNo
+entry_below n e = pick (ltb e n) (Some (record { 0 = e })) None
 
 -- 15: an entry to be appended, 3 words, or its children do not fit what is left of their slices, or would pass n's or c's limit
 unfoldable pub full : (roomBuilt roomKids built kids count : ℕ) → Bool

@@ -5,41 +5,38 @@ ghost use Rattle.store.specs.Store.{full};
 ghost use Rattle.store.specs.Places.{StoreOk, Appended, place_of, Kept, place};
 
 use crate::lookup::find_entry;
-use slices::copy::copy_to;
 use table::limits::{ENTRY_WORDS, MAX_CHILD_REFS, MAX_ENTRIES};
 use table::{EntryNo, StatementNo};
 
 // How much of the two outputs is built: words of entries, and references.
-#[derive(Clone, Copy)]
+// As it is: (a) no heap. The outputs are slices lent by the caller of a replay, and what is built is the front of each.
+#[derive(Clone, Copy, Debug, PartialEq, Eq)]
 pub struct Store {
     pub built: usize,
     pub kids: usize,
 }
 
-#[derive(Clone, Copy)]
-pub enum Placed {
-    At(EntryNo, Store),
-    NoRoom,
+// An entry that has its place, and what is built with it.
+#[derive(Clone, Copy, Debug, PartialEq, Eq)]
+pub struct Placed {
+    pub entry: EntryNo,
+    pub store: Store,
 }
 
 // 15: an entry to be appended, 3 words, or its children do not fit what is left of their slices, or would pass n's or c's limit.
+#[tactic(auto, unfolding(crate::specs::Store::full))]
 fn has_room(entries: usize, children: usize, store: Store, count: usize) -> bool
     requires { (store.built + entry_size ≤ max_references) × ((store.kids ≤ max_child_refs) × (count ≤ max_references)) }
     ensures { result ≡ not (full entries children store.built store.kids count) }
 {
     let kids = store.kids + count;
-    if entries < store.built + ENTRY_WORDS {
-        return false;
-    }
-    if children < kids {
-        return false;
-    }
-    if (MAX_ENTRIES as usize) < store.built / ENTRY_WORDS + 1 {
-        return false;
-    }
-    kids <= MAX_CHILD_REFS as usize
+    store.built + ENTRY_WORDS <= entries
+        && kids <= children
+        && store.built / ENTRY_WORDS < MAX_ENTRIES as usize
+        && kids <= MAX_CHILD_REFS as usize
 }
 
+#[tactic(auto, using(crate::proofs::PlaceLaws::entry_words_lem))]
 fn append(
     statement: StatementNo,
     wanted: &[u32],
@@ -56,37 +53,44 @@ fn append(
     entries[at] = statement.0;
     entries[at + 1] = kids as u32;
     entries[at + 2] = wanted.len() as u32;
-    copy_to(wanted, children, kids);
+    let end = kids + wanted.len();
+    children[kids..end].copy_from_slice(wanted);
     Store {
         built: at + ENTRY_WORDS,
-        kids: kids + wanted.len(),
+        kids: end,
     }
 }
 
-// Finds an exactly equal entry or appends one.
+// Finds an exactly equal entry or appends one. None: there is no room for it.
+#[tactic(auto, using(crate::proofs::PlaceLaws::few_built, crate::proofs::PlaceLaws::roomy))]
 pub fn find_or_append(
     statement: StatementNo,
     wanted: &[u32],
     entries: &mut [u32],
     children: &mut [u32],
     store: Store,
-) -> Placed
+) -> Option<Placed>
     requires store_ok { StoreOk entries.old children.old store }
     requires wanted_len_bound { length wanted.now ≤ max_references }
     ensures { (place_of entries.new children.new result
         ≡ place (take store.built entries.old) (take store.kids children.old) (length entries.old) (length children.old) statement.0 wanted.now)
         × Kept entries.new children.new result }
 {
-    let built = store.built;
-    let kids = store.kids;
-    let n = built / ENTRY_WORDS;
-    let found = find_entry(&entries[..built], &children[..kids], statement, wanted);
-    if found < n {
-        return Placed::At(EntryNo(found as u32), store);
+    let n = store.built / ENTRY_WORDS;
+    if let Some(entry) = find_entry(
+        &entries[..store.built],
+        &children[..store.kids],
+        statement,
+        wanted,
+    ) {
+        return Some(Placed { entry, store });
     }
     if !has_room(entries.len(), children.len(), store, wanted.len()) {
-        return Placed::NoRoom;
+        return None;
     }
     let more = append(statement, wanted, entries, children, store);
-    Placed::At(EntryNo(n as u32), more)
+    Some(Placed {
+        entry: EntryNo(n as u32),
+        store: more,
+    })
 }

@@ -4,9 +4,9 @@ ghost use Rattle.std.specs.Prelude.{◌≤◌, length};
 ghost use Rattle.defs.specs.Table.{header_size};
 ghost use Rattle.table.specs.Headers.{HeaderIs};
 
-use crate::numbers::{EntryNo, StatementNo, wide};
+use crate::numbers::{EntryNo, StatementNo};
 
-#[derive(Clone, Copy)]
+#[derive(Clone, Copy, Debug, PartialEq, Eq)]
 pub struct Header {
     pub statements: u32,
     pub references: usize,
@@ -22,9 +22,9 @@ pub fn read_header(words: &[u32]) -> Header
 {
     Header {
         statements: words[0],
-        references: wide(words[1]),
+        references: words[1] as usize,
         entries: words[2],
-        child_refs: wide(words[3]),
+        child_refs: words[3] as usize,
         theorem: StatementNo(words[8]),
         qed: EntryNo(words[9]),
     }

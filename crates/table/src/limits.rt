@@ -18,3 +18,6 @@ pub const HEADER_WORDS: usize = 10;
 pub const STATEMENT_WORDS: usize = 5;
 
 pub const ENTRY_WORDS: usize = 3;
+
+// A step is five words: reference, mark, statement, parent statement plus 1, hypothesis index.
+pub const STEP_WORDS: usize = 5;

@@ -3,14 +3,12 @@ ghost use Rattle.std.specs.Prelude.{◌≡◌};
 ghost use Rattle.defs.specs.Table.{statement_words, hyp_words, entry_words, child_words};
 ghost use Rattle.defs.specs.Checked.{HeaderOk};
 
-use crate::numbers::wide;
-
 pub fn statement_section(words: &[u32]) -> &[u32]
     requires { HeaderOk words.now }
     ensures { result.now ≡ statement_words words.now }
 {
-    let from = wide(words[4]);
-    let to = wide(words[5]);
+    let from = words[4] as usize;
+    let to = words[5] as usize;
     &words[from..to]
 }
 
@@ -18,8 +16,8 @@ pub fn hyp_section(words: &[u32]) -> &[u32]
     requires { HeaderOk words.now }
     ensures { result.now ≡ hyp_words words.now }
 {
-    let from = wide(words[5]);
-    let to = wide(words[6]);
+    let from = words[5] as usize;
+    let to = words[6] as usize;
     &words[from..to]
 }
 
@@ -27,8 +25,8 @@ pub fn entry_section(words: &[u32]) -> &[u32]
     requires { HeaderOk words.now }
     ensures { result.now ≡ entry_words words.now }
 {
-    let from = wide(words[6]);
-    let to = wide(words[7]);
+    let from = words[6] as usize;
+    let to = words[7] as usize;
     &words[from..to]
 }
 
@@ -36,6 +34,6 @@ pub fn child_section(words: &[u32]) -> &[u32]
     requires { HeaderOk words.now }
     ensures { result.now ≡ child_words words.now }
 {
-    let from = wide(words[7]);
+    let from = words[7] as usize;
     &words[from..]
 }

@@ -51,8 +51,3 @@ module _ (ss es : List ℕ) (s n c : ℕ) where
   -- one line that is not kept
   pub entry_wrong : (e : ℕ) → e < n → all_of (entry_rules ss es s c e) ≡ false → all_of (entries_rules ss es s n c) ≡ false
   entry_wrong e l f = entries_decide.no (λ r. clash (all_of (entry_rules ss es s c e)) ((entry_decides ss es s c e).yes (r.line e l)) f)
-
--- the words that the record names are the entry's children
-pub children_part : (es cs : List ℕ) (e start n : ℕ) → start ≡ child_start_in es e → n ≡ child_count_in es e → part start (start + n - start) cs ≡ children_in es cs e
-unfolding children_in
-children_part es cs e start n f g = between cs start (start + n) (child_start_in es e) (child_count_in es e) f (omega arith)

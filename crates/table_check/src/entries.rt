@@ -7,7 +7,7 @@ ghost use Rattle.table.specs.Records.{EntryIn};
 ghost use Rattle.table_check.specs.Right.{ChildrenBefore, ChildrenRight};
 
 use table::EntryNo;
-use table::entries::{child, child_count, child_start, statement_of};
+use table::entries::{child_count, child_start, children_of, statement_of};
 use table::statements::hyp_count;
 
 // Entry e keeps its line, `taken` being the children of the entries before it. Children past the end of their place are
@@ -52,13 +52,11 @@ pub fn entries_wrong(
     ensures { result ≡ not (all_of (entries_rules statements.now entries.now count entry_count child_refs)) }
 {
     let mut taken: usize = 0;
-    let mut e: u32 = 0;
-    while e < entry_count {
+    for e in 0..entry_count {
         if !entry_right(statements, count, entries, EntryNo(e), taken, child_refs) {
             return true;
         }
         taken += child_count(entries, EntryNo(e));
-        e += 1;
     }
     taken != child_refs
 }
@@ -67,12 +65,10 @@ pub fn entries_wrong(
 fn all_below(children: &[u32], parent: EntryNo) -> bool
     ensures { result ≡ all (λ c. ltb c parent.0) children.now }
 {
-    let mut i: usize = 0;
-    while i < children.len() {
-        if parent.0 <= child(children, i).0 {
+    for c in children {
+        if parent.0 <= *c {
             return false;
         }
-        i += 1;
     }
     true
 }
@@ -82,14 +78,10 @@ pub fn children_wrong(entries: &[u32], entry_count: u32, children: &[u32]) -> bo
     requires { ChildrenRight entries.now children.now entry_count }
     ensures { result ≡ not (all_below (children_below entries.now children.now) entry_count) }
 {
-    let mut e: u32 = 0;
-    while e < entry_count {
-        let start = child_start(entries, EntryNo(e));
-        let end = start + child_count(entries, EntryNo(e));
-        if !all_below(&children[start..end], EntryNo(e)) {
+    for e in 0..entry_count {
+        if !all_below(children_of(entries, children, EntryNo(e)), EntryNo(e)) {
             return true;
         }
-        e += 1;
     }
     false
 }

@@ -4,8 +4,9 @@ ghost use Rattle.defs.specs.Table.{statement_words};
 ghost use Rattle.defs.specs.Check.{bad7};
 ghost use Rattle.defs.specs.Checked.{HeaderOk};
 
+use table::Kind;
 use table::header::read_header;
-use table::statements::{ASSERTION, kind};
+use table::statements::kind_of;
 
 // Theorem not a statement of kind 0, or QED not below n.
 pub fn goal_wrong(words: &[u32], statements: &[u32]) -> bool
@@ -18,7 +19,7 @@ pub fn goal_wrong(words: &[u32], statements: &[u32]) -> bool
     if header.statements <= theorem.0 {
         return true;
     }
-    if kind(statements, theorem) != ASSERTION {
+    if kind_of(statements, theorem) != Some(Kind::Assertion) {
         return true;
     }
     header.entries <= header.qed.0

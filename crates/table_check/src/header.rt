@@ -6,7 +6,6 @@ use table::limits::{
     ENTRY_WORDS, HEADER_WORDS, MAX_CHILD_REFS, MAX_ENTRIES, MAX_REFERENCES, MAX_STATEMENTS,
     STATEMENT_WORDS,
 };
-use table::numbers::wide;
 
 // Fewer than 10 words, a count over its limit, a wrong offset or length.
 pub fn header_wrong(words: &[u32]) -> bool
@@ -27,20 +26,20 @@ pub fn header_wrong(words: &[u32]) -> bool
     if MAX_CHILD_REFS < words[3] {
         return true;
     }
-    let hyps_from = HEADER_WORDS + STATEMENT_WORDS * wide(words[0]);
-    let entries_from = hyps_from + wide(words[1]);
-    let children_from = entries_from + ENTRY_WORDS * wide(words[2]);
-    let whole = children_from + wide(words[3]);
-    if wide(words[4]) != HEADER_WORDS {
+    let hyps_from = HEADER_WORDS + STATEMENT_WORDS * words[0] as usize;
+    let entries_from = hyps_from + words[1] as usize;
+    let children_from = entries_from + ENTRY_WORDS * words[2] as usize;
+    let whole = children_from + words[3] as usize;
+    if words[4] as usize != HEADER_WORDS {
         return true;
     }
-    if wide(words[5]) != hyps_from {
+    if words[5] as usize != hyps_from {
         return true;
     }
-    if wide(words[6]) != entries_from {
+    if words[6] as usize != entries_from {
         return true;
     }
-    if wide(words[7]) != children_from {
+    if words[7] as usize != children_from {
         return true;
     }
     words.len() != whole

@@ -5,8 +5,9 @@ ghost use Rattle.defs.specs.Table.{stmt_size};
 ghost use Rattle.defs.specs.Check.{reference_ok, hyps_repeat};
 ghost use Rattle.table_check.specs.Right.{HypsRight};
 
-use table::StatementNo;
-use table::statements::{ASSERTION, hyp_count, hyp_start, hypothesis, kind};
+use table::statements::{hypothesis, hyps_of, kind_of};
+use table::{Kind, StatementNo};
+use theorem::lists::repeats;
 
 // Reference i names a statement, of kind 1 or 2.
 fn reference_right(statements: &[u32], count: u32, hyps: &[u32], i: usize) -> bool
@@ -18,7 +19,7 @@ fn reference_right(statements: &[u32], count: u32, hyps: &[u32], i: usize) -> bo
     if count <= named.0 {
         return false;
     }
-    kind(statements, named) != ASSERTION
+    kind_of(statements, named) != Some(Kind::Assertion)
 }
 
 // Every reference of the section is right.
@@ -26,35 +27,12 @@ fn references_right(statements: &[u32], count: u32, hyps: &[u32]) -> bool
     requires { length statements.now ≡ stmt_size * count }
     ensures { result ≡ all_below (reference_ok statements.now hyps.now count) (length hyps.now) }
 {
-    let mut i: usize = 0;
-    while i < hyps.len() {
+    for i in 0..hyps.len() {
         if !reference_right(statements, count, hyps, i) {
             return false;
         }
-        i += 1;
     }
     true
-}
-
-// A word stands twice in a list: all pairs are searched, and both loops are left at the first hit.
-fn repeated(list: &[u32]) -> bool
-    ensures { result ≡ repeats list.now }
-{
-    let mut found = false;
-    let mut i: usize = 0;
-    'search: while i < list.len() {
-        let own = list[i];
-        let mut j: usize = 0;
-        while j < i {
-            if list[j] == own {
-                found = true;
-                break 'search;
-            }
-            j += 1;
-        }
-        i += 1;
-    }
-    found
 }
 
 // A statement has a hypothesis twice in its list.
@@ -62,14 +40,10 @@ fn lists_repeat(statements: &[u32], count: u32, hyps: &[u32]) -> bool
     requires { HypsRight statements.now hyps.now count }
     ensures { result ≡ some_below (hyps_repeat statements.now hyps.now) count }
 {
-    let mut k: u32 = 0;
-    while k < count {
-        let start = hyp_start(statements, StatementNo(k));
-        let end = start + hyp_count(statements, StatementNo(k));
-        if repeated(&hyps[start..end]) {
+    for k in 0..count {
+        if repeats(hyps_of(statements, hyps, StatementNo(k))) {
             return true;
         }
-        k += 1;
     }
     false
 }

@@ -8,8 +8,10 @@ mod hypotheses;
 mod statements;
 
 ghost use Rattle.std.specs.Prelude.{◌≡◌};
+ghost use Rattle.answers.specs.Refused.{answer_number};
 ghost use Rattle.defs.specs.Check.{table_refusal};
 
+use answers::Refusal;
 use entries::{children_wrong, entries_wrong};
 use goal::goal_wrong;
 use header::header_wrong;
@@ -19,12 +21,12 @@ use statements::statements_wrong;
 use table::header::read_header;
 use table::sections::{child_section, entry_section, hyp_section, statement_section};
 
-// The number with which a table is refused, 0 for a good one. Takes any words and any label bytes.
-pub fn check(words: &[u32], labels: &[u8]) -> u32
-    ensures { result ≡ table_refusal words.now labels.now }
+// Why a table is refused, if it is. Takes any words and any label bytes.
+pub fn check(words: &[u32], labels: &[u8]) -> Result<(), Refusal>
+    ensures { answer_number result ≡ table_refusal words.now labels.now }
 {
     if header_wrong(words) {
-        return 1;
+        return Err(Refusal::Header);
     }
     let header = read_header(words);
     let s = header.statements;
@@ -34,22 +36,22 @@ pub fn check(words: &[u32], labels: &[u8]) -> u32
     let entries = entry_section(words);
     let children = child_section(words);
     if statements_wrong(statements, s, hyps.len(), labels.len()) {
-        return 2;
+        return Err(Refusal::Statements);
     }
     if labels_wrong(statements, s, labels) {
-        return 3;
+        return Err(Refusal::Labels);
     }
     if hypotheses_wrong(statements, s, hyps) {
-        return 4;
+        return Err(Refusal::Hypotheses);
     }
     if entries_wrong(statements, s, entries, n, children.len()) {
-        return 5;
+        return Err(Refusal::Entries);
     }
     if children_wrong(entries, n, children) {
-        return 6;
+        return Err(Refusal::Children);
     }
     if goal_wrong(words, statements) {
-        return 7;
+        return Err(Refusal::Goal);
     }
-    0
+    Ok(())
 }

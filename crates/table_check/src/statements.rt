@@ -6,11 +6,9 @@ ghost use Rattle.defs.specs.Check.{statement_rules, statements_rules};
 ghost use Rattle.table.specs.Records.{StatementIn};
 ghost use Rattle.table_check.specs.Right.{TakenBefore};
 
-use table::StatementNo;
 use table::limits::MAX_LABEL_LENGTH;
-use table::statements::{
-    ASSERTION, ESSENTIAL, hyp_count, hyp_start, kind, label_length, label_start,
-};
+use table::statements::{hyp_count, hyp_start, kind_of, label_length, label_start};
+use table::{Kind, StatementNo};
 
 // What the statements before one have taken of the label bytes and of the hypothesis references: the running sums.
 #[derive(Clone, Copy)]
@@ -31,10 +29,9 @@ fn statement_right(
     requires taken_before { TakenBefore statements.now references bytes k.0 taken.labels taken.hyps }
     ensures { result ≡ all_of (statement_rules statements.now references bytes k.0) }
 {
-    let kind = kind(statements, k);
-    if ESSENTIAL < kind {
+    let Some(kind) = kind_of(statements, k) else {
         return false;
-    }
+    };
     if label_start(statements, k) != taken.labels {
         return false;
     }
@@ -52,7 +49,7 @@ fn statement_right(
         return false;
     }
     let count = hyp_count(statements, k);
-    if kind != ASSERTION {
+    if kind != Kind::Assertion {
         return count == 0;
     }
     count <= references - taken.hyps
@@ -64,8 +61,7 @@ pub fn statements_wrong(statements: &[u32], count: u32, references: usize, bytes
     ensures { result ≡ not (all_of (statements_rules statements.now count references bytes)) }
 {
     let mut taken = Taken { labels: 0, hyps: 0 };
-    let mut k: u32 = 0;
-    while k < count {
+    for k in 0..count {
         if !statement_right(statements, StatementNo(k), taken, references, bytes) {
             return true;
         }
@@ -73,7 +69,6 @@ pub fn statements_wrong(statements: &[u32], count: u32, references: usize, bytes
             labels: taken.labels + label_length(statements, StatementNo(k)),
             hyps: taken.hyps + hyp_count(statements, StatementNo(k)),
         };
-        k += 1;
     }
     if taken.labels != bytes {
         return true;

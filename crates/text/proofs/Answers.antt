@@ -4,10 +4,9 @@ use mathlib.Core.Path.{◌≡◌, refl, sym, ap, ◌∙◌}
 use mathlib.Core.Logic.{◌≢◌}
 use mathlib.Core.Bool.{true, false, not, ◌&&◌, ◌||◌}
 use mathlib.Core.List.{List, [], ◌∷◌}
-use Prim.Native.Nat.{ℕ, ◌≤◌, ◌<◌}
+use Prim.Native.Nat.{ℕ, ◌≤◌}
 use native.Mathlib.Omega.{arith}
 use lib.Dec.{nltb→le, ltb}
-use borrow.Author.Tests.{lt-ltb, le-ltb}
 use Rattle.laws.specs.Lists.{T_of, or_no}
 use Rattle.laws.specs.Tools.{zeroed}
 use Rattle.defs.specs.Check.{first_of, table_refusal}
@@ -68,18 +67,8 @@ module _ (w b : List ℕ) (style : ℕ) (l : Layout) (work sums out : List ℕ) 
               rw (number_late, late_not_early w b style l out)
               (answer_by _ _ _ _ work' sums' _ _ out' _ wrote.number_is wrote.length_is zero₁ zero₂ wrote.out_is)
 
--- test 14 by its parts: the u32 slice, and for style 0 the u16 slice
+-- past test 14 the u32 slice is long enough, and for style 0 the u16 slice
 module _ (w : List ℕ) (l : Layout) (style work sums : ℕ) where
-  pub short_work : work < need32 w → true ≡ (ltb work (need32 w) || (is_compressed style && ltb sums (need16 w l)))
-  short_work h = sym (rw (lt-ltb work (need32 w) h))
-
-  pub short_sums : (cells : ℕ) → need32 w ≤ work → is_compressed style ≡ true → cells ≡ need16 w l → ltb sums cells ≡ (ltb work (need32 w) || (is_compressed style && ltb sums (need16 w l)))
-  short_sums cells h e is = rw (is, le-ltb work (need32 w) h, e)
-
-  pub not_short : need32 w ≤ work → is_compressed style ≡ false → false ≡ (ltb work (need32 w) || (is_compressed style && ltb sums (need16 w l)))
-  not_short h e = sym (rw (le-ltb work (need32 w) h, e))
-
-  -- and what it leaves
   pub work_enough : (ltb work (need32 w) || (is_compressed style && ltb sums (need16 w l))) ≡ false → need32 w ≤ work
   work_enough h = nltb→le work (need32 w) (T_of (ap not (or_no (ltb work (need32 w)) (is_compressed style && ltb sums (need16 w l)) h).0))
 

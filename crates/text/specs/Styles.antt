@@ -1,11 +1,11 @@
 -- The styles and their numbers.
-use Rattle.std.specs.Prelude.{◌≡◌, refl, Bool, true, false, ℕ}
+use Rattle.std.specs.Prelude.{◌≡◌, refl, Bool, true, false, ℕ, Result, Ok, Err}
 use Rattle.laws.specs.Lists.{clash}
 use Rattle.defs.specs.Text.{is_compressed, is_packed, is_explicit, bad9}
 use Rattle.text.specs.declared.style.Style.{Style}
 use Rattle.text.specs.declared.style.Style.TheVariants.{Compressed, Normal, Packed, Explicit, PackedExplicit}
-use Rattle.text.specs.declared.style.StyleRead.{StyleRead}
-use Rattle.text.specs.declared.style.StyleRead.TheVariants.{Known, Unknown}
+use Rattle.answers.specs.declared.refusals.Refusal.{Refusal}
+use Rattle.answers.specs.declared.refusals.Refusal.TheVariants.{Style as NoStyle}
 
 -- 0 compressed, 1 normal, 2 packed, 3 explicit, 4 packed explicit
 abbrev pub number_of : Style → ℕ
@@ -15,10 +15,10 @@ number_of Packed = 2
 number_of Explicit = 3
 number_of PackedExplicit = 4
 
--- the style that has this number, or none has it
-abbrev pub StyleIs : ℕ → StyleRead → Type 0
-StyleIs number (Known style) = number ≡ number_of style
-StyleIs number Unknown = bad9 number ≡ true
+-- the style that has this number; or none has it, which is refusal 9
+abbrev pub StyleIs : ℕ → Result Style Refusal → Type 0
+StyleIs number (Ok style) = number ≡ number_of style
+StyleIs number (Err refusal) = (bad9 number ≡ true) × (refusal ≡ NoStyle)
 
 -- what a style is, by its name; and that this is what its number says
 abbrev pub compressed_is : Style → Bool
@@ -79,8 +79,8 @@ number_known Explicit = refl
 number_known PackedExplicit = refl
 
 -- a style that was read, and a number that no style has
-pub read_known : (number : ℕ) (read : StyleRead) (style : Style) → StyleIs number read → read ≡ Known style → number ≡ number_of style
+pub read_known : (number : ℕ) (read : Result Style Refusal) (style : Style) → StyleIs number read → read ≡ Ok style → number ≡ number_of style
 read_known number read style is e = rw e at is
 
-pub read_unknown : (number : ℕ) (read : StyleRead) → StyleIs number read → read ≡ Unknown → bad9 number ≡ true
-read_unknown number read is e = rw e at is
+pub read_unknown : (number : ℕ) (read : Result Style Refusal) (refusal : Refusal) → StyleIs number read → read ≡ Err refusal → (bad9 number ≡ true) × (refusal ≡ NoStyle)
+read_unknown number read refusal is e = rw e at is

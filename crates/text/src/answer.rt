@@ -5,16 +5,15 @@ ghost use Rattle.defs.specs.Layout.{bad8};
 ghost use Rattle.defs.specs.Text.{is_compressed};
 ghost use Rattle.defs.specs.Refusals.{need32, need16};
 ghost use Rattle.defs.specs.Outcome.{answer_one, text_outcome};
+ghost use Rattle.answers.specs.Refused.{answer_number, answer_length};
 ghost use Rattle.layout.specs.Layouts.{layout_of};
 ghost use Rattle.text.specs.Styles.{number_of};
 
-use crate::style::{Style, StyleRead};
+use crate::style::Style;
 use crate::writers::write_text;
+use answers::{Refusal, wipe_both};
 use layout::Layout;
-use lists::answers::refused;
-use order::answer::wipe;
 use order::room::working_sums;
-use table::Written;
 use table_check::check;
 use walk::room::working_words;
 
@@ -23,13 +22,7 @@ fn is_short(words: &[u32], layout: Layout, style: Style, work: usize, sums: usiz
     requires { HeaderOk words.now × (bad8 (layout_of layout) ≡ false) }
     ensures { result ≡ (ltb work (need32 words.now) || (is_compressed (number_of style) && ltb sums (need16 words.now (layout_of layout)))) }
 {
-    if work < working_words(words) {
-        return true;
-    }
-    if style.compressed() {
-        return sums < working_sums(words, layout);
-    }
-    false
+    work < working_words(words) || style.compressed() && sums < working_sums(words, layout)
 }
 
 // Any ending past test 14 leaves both working slices zero.
@@ -41,24 +34,19 @@ pub fn text(
     work: &mut [u32],
     sums: &mut [u16],
     out: &mut [u8],
-) -> Written
-    ensures { answer_one result.number result.length (work.new ∷ sums.new ∷ []) out.new
+) -> Result<usize, Refusal>
+    ensures { answer_one (answer_number result) (answer_length result) (work.new ∷ sums.new ∷ []) out.new
         ≡ text_outcome words.now labels.now style (layout_of layout) work.old sums.old out.old }
 {
-    let number = check(words, labels);
-    if number != 0 {
-        return refused(number);
-    }
+    check(words, labels)?;
     if layout.is_bad() {
-        return refused(8);
+        return Err(Refusal::Layout);
     }
-    let StyleRead::Known(known) = Style::from_number(style) else {
-        return refused(9);
-    };
+    let known = Style::try_from(style)?;
     if is_short(words, layout, known, work.len(), sums.len()) {
-        return refused(14);
+        return Err(Refusal::ShortWork);
     }
     let answer = write_text(words, labels, known, layout, work, sums, out);
-    wipe(work, sums);
+    wipe_both(work, sums);
     answer
 }

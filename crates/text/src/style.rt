@@ -2,7 +2,9 @@
 ghost use Rattle.std.specs.Prelude.{◌≡◌};
 ghost use Rattle.text.specs.Styles.{compressed_is, packed_is, explicit_is, StyleIs};
 
-#[derive(Clone, Copy)]
+use answers::Refusal;
+
+#[derive(Clone, Copy, Debug, PartialEq, Eq)]
 pub enum Style {
     Compressed,
     Normal,
@@ -12,59 +14,42 @@ pub enum Style {
 }
 
 // A style read from its number; refusal 9 where no style has it.
-#[derive(Clone, Copy)]
-pub enum StyleRead {
-    Known(Style),
-    Unknown,
+impl TryFrom<u32> for Style {
+    type Error = Refusal;
+
+    ghost try_from_gives = { StyleIs };
+
+    fn try_from(number: u32) -> Result<Self, Refusal> {
+        match number {
+            0 => Ok(Style::Compressed),
+            1 => Ok(Style::Normal),
+            2 => Ok(Style::Packed),
+            3 => Ok(Style::Explicit),
+            4 => Ok(Style::PackedExplicit),
+            _ => Err(Refusal::Style),
+        }
+    }
 }
 
 impl Style {
-    pub fn from_number(number: u32) -> StyleRead
-        ensures { StyleIs number result }
-    {
-        match number {
-            0 => StyleRead::Known(Style::Compressed),
-            1 => StyleRead::Known(Style::Normal),
-            2 => StyleRead::Known(Style::Packed),
-            3 => StyleRead::Known(Style::Explicit),
-            4 => StyleRead::Known(Style::PackedExplicit),
-            _ => StyleRead::Unknown,
-        }
-    }
-
     pub fn compressed(self) -> bool
         ensures { result ≡ compressed_is self }
     {
-        match self {
-            Style::Compressed => true,
-            Style::Normal => false,
-            Style::Packed => false,
-            Style::Explicit => false,
-            Style::PackedExplicit => false,
-        }
+        matches!(self, Style::Compressed)
     }
 
     pub fn packed(self) -> bool
         ensures { result ≡ packed_is self }
     {
-        match self {
-            Style::Compressed => true,
-            Style::Normal => false,
-            Style::Packed => true,
-            Style::Explicit => false,
-            Style::PackedExplicit => true,
-        }
+        matches!(
+            self,
+            Style::Compressed | Style::Packed | Style::PackedExplicit
+        )
     }
 
     pub fn explicit(self) -> bool
         ensures { result ≡ explicit_is self }
     {
-        match self {
-            Style::Compressed => false,
-            Style::Normal => false,
-            Style::Packed => false,
-            Style::Explicit => true,
-            Style::PackedExplicit => true,
-        }
+        matches!(self, Style::Explicit | Style::PackedExplicit)
     }
 }

@@ -4,25 +4,25 @@ ghost use Rattle.std.specs.Prelude.{◌≡◌, true, false, length};
 ghost use Rattle.defs.specs.Text.{is_compressed, is_packed};
 ghost use Rattle.defs.specs.Refusals.{bad13};
 ghost use Rattle.layout.specs.Layouts.{layout_of};
+ghost use Rattle.answers.specs.Refused.{answer_number, answer_length};
 ghost use Rattle.order.specs.Arrangement.{Listable};
 ghost use Rattle.text.specs.Styles.{number_of};
 ghost use Rattle.text.specs.Late.{Writable, WritableSums, WroteText};
 
 use crate::style::Style;
+use answers::Refusal;
 use compressed::places::Places;
 use compressed::text::compressed_text;
 use layout::Layout;
-use lists::answers::refused;
 use lists::normal::{MAX_NORMAL_STEPS, count_steps};
 use order::arrange;
 use steptexts::named::pack_named;
 use steptexts::normal::normal_text;
 use steptexts::packed::packed_text;
-use table::Written;
 use table::header::read_header;
-use table::numbers::wide;
 use table::sections::{child_section, entry_section, statement_section};
 
+// As it is: (d) of the writers below three measure, test 15 and write; one function lent them as a closure would state their contracts again.
 // Style 0: tests 10 to 12 and 15.
 fn write_compressed(
     words: &[u32],
@@ -31,16 +31,12 @@ fn write_compressed(
     work: &mut [u32],
     sums: &mut [u16],
     out: &mut [u8],
-) -> Written
+) -> Result<usize, Refusal>
     requires writable { Writable words.now labels.now (layout_of layout) (length work.old) }
     requires writable_sums { WritableSums words.now (layout_of layout) (length sums.old) }
-    ensures { WroteText words.now labels.now 0 (layout_of layout) result.number result.length out.old out.new }
+    ensures { WroteText words.now labels.now 0 (layout_of layout) (answer_number result) (answer_length result) out.old out.new }
 {
-    let arranged = arrange(words, layout, work, sums);
-    let number = arranged.number;
-    if number != 0 {
-        return refused(number);
-    }
+    let arranged = arrange(words, layout, work, sums)?;
     let places = Places {
         list: arranged.labels,
         listed: arranged.listed,
@@ -52,10 +48,10 @@ fn write_compressed(
     let statements = statement_section(words);
     let length = compressed_text(layout, statements, labels, &work[..], places, &mut out[..0]);
     if out.len() < length {
-        return refused(15);
+        return Err(Refusal::ShortOutput);
     }
     compressed_text(layout, statements, labels, &work[..], places, out);
-    Written { number: 0, length }
+    Ok(length)
 }
 
 // Styles 2 and 4: test 15.
@@ -66,42 +62,27 @@ fn write_packed(
     layout: Layout,
     work: &mut [u32],
     out: &mut [u8],
-) -> Written
+) -> Result<usize, Refusal>
     requires writable { Writable words.now labels.now (layout_of layout) (length work.old) }
     requires style_value { (is_compressed (number_of style) ≡ false) × (is_packed (number_of style) ≡ true) }
-    ensures { WroteText words.now labels.now (number_of style) (layout_of layout) result.number result.length out.old out.new }
+    ensures { WroteText words.now labels.now (number_of style) (layout_of layout) (answer_number result) (answer_length result) out.old out.new }
 {
     let explicit = style.explicit();
     let places = pack_named(words, labels, explicit, work);
-    let steps = places.steps;
-    let many = places.many;
-    let names = places.names;
     let length = packed_text(
         words,
         labels,
         layout,
         explicit,
         &work[..],
-        steps,
-        many,
-        names,
+        places,
         &mut out[..0],
     );
     if out.len() < length {
-        return refused(15);
+        return Err(Refusal::ShortOutput);
     }
-    packed_text(
-        words,
-        labels,
-        layout,
-        explicit,
-        &work[..],
-        steps,
-        many,
-        names,
-        out,
-    );
-    Written { number: 0, length }
+    packed_text(words, labels, layout, explicit, &work[..], places, out);
+    Ok(length)
 }
 
 // 13: more than 1,000,000 normal steps. They are counted in the working slice, before anything walks.
@@ -112,7 +93,7 @@ fn has_many_steps(words: &[u32], work: &mut [u32]) -> bool
     let header = read_header(words);
     let entries = entry_section(words);
     let children = child_section(words);
-    let steps = count_steps(entries, children, wide(header.entries), header.qed, work);
+    let steps = count_steps(entries, children, header.entries as usize, header.qed, work);
     MAX_NORMAL_STEPS < steps
 }
 
@@ -124,21 +105,21 @@ fn write_normal(
     layout: Layout,
     work: &mut [u32],
     out: &mut [u8],
-) -> Written
+) -> Result<usize, Refusal>
     requires writable { Writable words.now labels.now (layout_of layout) (length work.old) }
     requires style_value { (is_compressed (number_of style) ≡ false) × (is_packed (number_of style) ≡ false) }
-    ensures { WroteText words.now labels.now (number_of style) (layout_of layout) result.number result.length out.old out.new }
+    ensures { WroteText words.now labels.now (number_of style) (layout_of layout) (answer_number result) (answer_length result) out.old out.new }
 {
     if has_many_steps(words, work) {
-        return refused(13);
+        return Err(Refusal::ManySteps);
     }
     let explicit = style.explicit();
     let length = normal_text(words, labels, layout, explicit, work, &mut out[..0]);
     if out.len() < length {
-        return refused(15);
+        return Err(Refusal::ShortOutput);
     }
     normal_text(words, labels, layout, explicit, work, out);
-    Written { number: 0, length }
+    Ok(length)
 }
 
 // The text of any style.
@@ -150,10 +131,10 @@ pub fn write_text(
     work: &mut [u32],
     sums: &mut [u16],
     out: &mut [u8],
-) -> Written
+) -> Result<usize, Refusal>
     requires writable { Writable words.now labels.now (layout_of layout) (length work.old) }
     requires writable_sums { is_compressed (number_of style) ≡ true → WritableSums words.now (layout_of layout) (length sums.old) }
-    ensures { WroteText words.now labels.now (number_of style) (layout_of layout) result.number result.length out.old out.new }
+    ensures { WroteText words.now labels.now (number_of style) (layout_of layout) (answer_number result) (answer_length result) out.old out.new }
 {
     if style.compressed() {
         return write_compressed(words, labels, layout, work, sums, out);

@@ -4,10 +4,10 @@ ghost use Rattle.defs.specs.Table.{kind_in, mandatory};
 ghost use Rattle.defs.specs.Refusals.{mixed};
 ghost use Rattle.theorem.specs.Goal.{TheoremOk, InStatements};
 
-use table::StatementNo;
 use table::header::read_header;
 use table::sections::{hyp_section, statement_section};
-use table::statements::{ESSENTIAL, FLOATING, hyp_count, hyp_start, kind};
+use table::statements::{hyp_count, hyp_start, kind_of};
+use table::{Kind, StatementNo};
 
 pub fn theorem_list(words: &[u32]) -> &[u32]
     requires { TheoremOk words.now }
@@ -27,18 +27,14 @@ pub fn mixed(statements: &[u32], list: &[u32]) -> bool
     ensures { result ≡ mixed (map (kind_in statements.now) list.now) }
 {
     let mut essential = false;
-    let mut i: usize = 0;
-    while i < list.len() {
-        let k = kind(statements, StatementNo(list[i]));
-        if essential {
-            if k == FLOATING {
-                return true;
-            }
+    for k in list {
+        let kind = kind_of(statements, StatementNo(*k));
+        if essential && kind == Some(Kind::Floating) {
+            return true;
         }
-        if k == ESSENTIAL {
+        if kind == Some(Kind::Essential) {
             essential = true;
         }
-        i += 1;
     }
     false
 }

@@ -2,4 +2,4 @@
 #![tactic(auto)]
 
 pub mod hypotheses; // hypotheses.rt: where the list stands, and refusal 10
-pub mod lists; // lists.rt: a number in a list, a number that stands twice
+pub mod lists; // lists.rt: a number that stands twice

@@ -19,21 +19,47 @@ use Rattle.vectors.specs.Hash.{hash_to}
 use Rattle.vectors.specs.Answers.{answer_of, answer_at, answers_of, list_answer, letters_answers, text_answer}
 use Rattle.vectors.specs.Asked.{lists_compared, texts_compared, layout_compared}
 use Rattle.vectors.specs.Tallies.{malformed_at, moved_to, with_layout, compared}
-use Rattle.vectors.specs.declared.answers.Answer.{Answer}
-use Rattle.vectors.specs.declared.answers.Answers.{Answers}
+use Rattle.vectors.specs.declared.operations.Answer.{Answer}
+use Rattle.vectors.specs.declared.operations.Answers.{Answers}
 use Rattle.vectors.specs.declared.tally.Tally.{Tally}
-use Rattle.vectors.proofs.HashLaws.{front_hash}
+use Rattle.std.specs.Prelude.{Result, Ok, Err, map}
+use Rattle.defs.specs.Inside.{Inside, one_inside, two_inside}
+use Rattle.answers.specs.declared.refusals.Refusal.{Refusal}
+use Rattle.answers.specs.declared.written.Written.{Written}
+use Rattle.answers.specs.declared.written.WrittenTwo.{WrittenTwo}
+use Rattle.answers.specs.declared.written.Lengths.{Lengths}
+use Rattle.answers.specs.Refused.{answer_number, answer_length, answer_first, answer_second, written_of, written_two_of}
+use Rattle.vectors.proofs.HashLaws.{front_hash, same_numbers}
 
 -- ---- of an outcome
 
-pub one_answer : {number len : ℕ} {works : List (List ℕ)} {out : List ℕ} {o : Outcome} {r : Answer}
-    → r ≡ answer_of number len out → answer_one number len works out ≡ o → r ≡ answer_at 0 o
-one_answer r e = r ∙ ap (answer_at 0) e
+told : (a : Result ℕ Refusal) → ((written_of a).number ≡ answer_number a) × ((written_of a).length ≡ answer_length a)
+told (Ok n) = (refl, refl)
+told (Err r) = (refl, refl)
 
-pub two_answers : {number first second : ℕ} {works : List (List ℕ)} {out₁ out₂ : List ℕ} {o : Outcome} {labels letters : Answer}
-    → labels ≡ answer_of number first out₁ → letters ≡ answer_of number second out₂ → answer_two number first second works out₁ out₂ ≡ o
+told_both : (a : Result Lengths Refusal) → ((written_two_of a).number ≡ answer_number a) × ((written_two_of a).first ≡ answer_first a) × ((written_two_of a).second ≡ answer_second a)
+told_both (Ok lengths) = (refl, refl, refl)
+told_both (Err r) = (refl, refl, refl)
+
+-- an answer as C has it has the lengths of the answer, which stand inside the outputs
+pub one_fits : (a : Result ℕ Refusal) {w : Written} {works : List (List ℕ)} {out : List ℕ} {o : Outcome}
+    → w ≡ written_of a → answer_one (answer_number a) (answer_length a) works out ≡ o → Inside o → w.length ≤ length out
+one_fits a is e inside = rw (is, (told a).1) (one_inside e inside)
+
+pub two_fit : (a : Result Lengths Refusal) {w : WrittenTwo} {works : List (List ℕ)} {out₁ out₂ : List ℕ} {o : Outcome}
+    → w ≡ written_two_of a → answer_two (answer_number a) (answer_first a) (answer_second a) works out₁ out₂ ≡ o → Inside o → (w.first ≤ length out₁) × (w.second ≤ length out₂)
+two_fit a is e inside = rw (is, (told_both a).1, (told_both a).2) (two_inside e inside)
+
+pub one_answer : (a : Result ℕ Refusal) {w : Written} {works : List (List ℕ)} {out : List ℕ} {o : Outcome} {r : Answer}
+    → w ≡ written_of a → r ≡ answer_of w.number w.length (map (λ (x : ℕ). x) out) → answer_one (answer_number a) (answer_length a) works out ≡ o → r ≡ answer_at 0 o
+one_answer a {w} {works} {out} is r e = r ∙ rw (is, (told a).0, (told a).1, same_numbers out) (ap (answer_at 0) e)
+
+pub two_answers : (a : Result Lengths Refusal) {w : WrittenTwo} {works : List (List ℕ)} {out₁ out₂ : List ℕ} {o : Outcome} {labels letters : Answer}
+    → w ≡ written_two_of a → labels ≡ answer_of w.number w.first (map (λ (x : ℕ). x) out₁) → letters ≡ answer_of w.number w.second (map (λ (x : ℕ). x) out₂)
+    → answer_two (answer_number a) (answer_first a) (answer_second a) works out₁ out₂ ≡ o
     → ◌≡◌ {A = Answers} (record { labels = labels; letters = letters }) (answers_of o)
-two_answers r₁ r₂ e = rw (r₁, r₂) (ap answers_of e)
+two_answers a {w} {works} {out₁} {out₂} is r₁ r₂ e =
+    rw (r₁, r₂, is, (told_both a).0, (told_both a).1, (told_both a).2, same_numbers out₁, same_numbers out₂) (ap answers_of e)
 
 -- ---- the same for slices as long
 

@@ -1,7 +1,7 @@
 -- The loops that hash: the hash of the first i elements, which stays below the modulus.
 -- The hash of the front of a slice is that of its first elements.
 use mathlib.Core.Path.{◌≡◌, refl, sym, ap, ◌∙◌}
-use mathlib.Core.List.{List, ◌++◌}
+use mathlib.Core.List.{List, [], ◌∷◌, ◌++◌, map}
 use Prim.Native.Nat.{ℕ, zero, suc, ◌+◌, ◌<◌, ◌≤◌}
 use native.Mathlib.Numerals.{add-one}
 use native.Mathlib.Omega.{arith}
@@ -39,3 +39,14 @@ pub hash_front : (xs : List ℕ) (n : ℕ) → n ≤ length xs → hash_to (take
 hash_front xs n h =
     let l : length (take n xs) ≡ n = length-take-le n xs h in
     rw l (sym (front_hash (take n xs) (drop n xs) n (omega arith)) ∙ ap (λ (y : List ℕ). hash_to y n) (take-append-drop n xs))
+
+-- ---- elements and their numbers
+
+pub mapped : {T : Type 0} (f : T → ℕ) (xs : List T) (i : ℕ) (x : T) → i < length xs → x ≡ get_or xs i x → f x ≡ get_or (map f xs) i 0
+mapped f [] i x l e = absurd (omega arith)
+mapped f (y ∷ ys) zero x l e = ap f e
+mapped f (y ∷ ys) (suc i) x l e = mapped f ys i x (omega arith) e
+
+pub same_numbers : (xs : List ℕ) → map (λ (x : ℕ). x) xs ≡ xs
+same_numbers [] = refl
+same_numbers (x ∷ xs) = ap (λ (l : List ℕ). x ∷ l) (same_numbers xs)

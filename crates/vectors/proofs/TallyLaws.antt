@@ -3,39 +3,25 @@
 use mathlib.Core.Path.{◌≡◌, refl, sym, ◌∙◌}
 use mathlib.Core.Bool.{Bool, true, false}
 use mathlib.Core.List.{List}
-use Prim.Native.Nat.{ℕ, ◌+◌, ◌-◌, ◌<◌, ◌≤◌}
-use lib.Dec.{eqb}
+use Prim.Native.Nat.{ℕ, ◌+◌, ◌-◌, ◌<◌, ◌≤◌, min}
+use native.Mathlib.Omega.{arith}
+use Rattle.std.proofs.Math.Decide.{dec_lt}
 use lib.ListN.{length}
 use borrow.Author.Tests.{eq-eqb, ne_eqb, lt-ltb, le-ltb}
 use Rattle.table_file.specs.Words.{word_at}
 use Rattle.vectors.specs.Answers.{is_stored}
 use Rattle.vectors.specs.Tallies.{left_out, more, malformed_at, moved_to, with_equal, with_different, judged, compared}
-use Rattle.vectors.specs.declared.answers.Answer.{Answer}
+use Rattle.vectors.specs.declared.operations.Answer.{Answer}
 use Rattle.vectors.specs.declared.tally.Tally.{Tally}
 
-pub one_more : (n : ℕ) → n < 18446744073709551615 → n + 1 ≡ more n
+pub one_more : (n r : ℕ) → n ≤ 18446744073709551615 → r ≡ min (n + 1) 18446744073709551615 → r ≡ more n
 unfolding more
-one_more n h = rw (lt-ltb n 18446744073709551615 h) refl
-
-pub no_more : (n : ℕ) → 18446744073709551615 ≤ n → n ≡ more n
-unfolding more
-no_more n h = rw (le-ltb n 18446744073709551615 h) refl
-
--- ---- whether an answer is the stored one
+one_more n r most is = elim (dec_lt n 18446744073709551615) [
+  | yes h ↦ rw (lt-ltb n 18446744073709551615 h) (omega arith)
+  | no h ↦ rw (le-ltb n 18446744073709551615 (omega arith)) (omega arith)
+]
 
 module _ (a : Answer) (l h : ℕ) where
-  pub other_number : (a.number ≡ 0 → ⊥) → false ≡ is_stored a l h
-  unfolding is_stored
-  other_number n = rw (ne_eqb a.number 0 n) refl
-
-  pub other_length : a.number ≡ 0 → (a.length ≡ l → ⊥) → false ≡ is_stored a l h
-  unfolding is_stored
-  other_length z n = rw (eq-eqb a.number 0 z, ne_eqb a.length l n) refl
-
-  pub same_so_far : a.number ≡ 0 → a.length ≡ l → eqb a.hash h ≡ is_stored a l h
-  unfolding is_stored
-  same_so_far z e = rw (eq-eqb a.number 0 z, eq-eqb a.length l e) refl
-
   -- ---- what is counted
 
   pub not_compared : (t : Tally) → l ≡ left_out → t ≡ judged t a l h

@@ -3,8 +3,8 @@ use Rattle.std.specs.Prelude.{Bool, ◌&&◌, List, [], ℕ, eqb, get_or}
 use Rattle.defs.specs.Layout.{Layout}
 use Rattle.defs.specs.Outcome.{Outcome, parents_outcome, distances_outcome, step_list_outcome, letters_outcome, text_outcome}
 use Rattle.vectors.specs.Hash.{hash_to}
-use Rattle.vectors.specs.declared.answers.Answer.{Answer}
-use Rattle.vectors.specs.declared.answers.Answers.{Answers}
+use Rattle.vectors.specs.declared.operations.Answer.{Answer}
+use Rattle.vectors.specs.declared.operations.Answers.{Answers}
 
 -- what was written is the first `length` elements of the output
 abbrev pub answer_of : (number length : ℕ) (out : List ℕ) → Answer

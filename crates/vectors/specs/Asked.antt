@@ -5,7 +5,7 @@ use Rattle.defs.specs.Layout.{Layout}
 use Rattle.table_file.specs.Words.{word_at}
 use Rattle.vectors.specs.Answers.{parents_answer, distances_answer, list_answer, letters_answers, text_answer}
 use Rattle.vectors.specs.Tallies.{malformed_at, moved_to, with_layout, compared}
-use Rattle.vectors.specs.declared.answers.Answers.{Answers}
+use Rattle.vectors.specs.declared.operations.Answers.{Answers}
 use Rattle.vectors.specs.declared.tally.Tally.{Tally}
 
 -- parents, then distances

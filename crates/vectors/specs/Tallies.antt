@@ -3,7 +3,7 @@ use Rattle.std.specs.Prelude.{true, false, List, ℕ, ◌+◌, ◌-◌, eqb, ltb
 use Rattle.laws.specs.Tools.{pick}
 use Rattle.table_file.specs.Words.{word_at}
 use Rattle.vectors.specs.Answers.{is_stored}
-use Rattle.vectors.specs.declared.answers.Answer.{Answer}
+use Rattle.vectors.specs.declared.operations.Answer.{Answer}
 use Rattle.vectors.specs.declared.tally.Tally.{Tally}
 
 -- one more, as far as can be counted

@@ -4,11 +4,10 @@ ghost use Rattle.layout.specs.Layouts.{layout_of};
 ghost use Rattle.vectors.specs.Asked.{counts_compared, lists_compared, texts_compared, layout_compared};
 ghost use Rattle.vectors.specs.Tallies.{judged, compared};
 
-use crate::answers;
-use crate::answers::{Answer, is_stored};
+use crate::operations;
+use crate::operations::{Answer, is_stored};
 use crate::tally::Tally;
 use layout::Layout;
-use table::numbers::wide;
 use table_file::{decode, word};
 
 // An answer is stored as its length and its hash; this length is for one that the Rust does not give, or that is too long to compare.
@@ -18,10 +17,7 @@ const LEFT_OUT: u32 = 4294967295;
 fn left(stored: &[u8], at: usize) -> usize
     ensures { result ≡ length stored.now - at }
 {
-    if stored.len() < at {
-        return 0;
-    }
-    stored.len() - at
+    stored.len().saturating_sub(at)
 }
 
 // Counts an answer as equal to the stored one or different from it.
@@ -62,8 +58,8 @@ fn compare_counts(
 ) -> Tally
     ensures { result ≡ counts_compared stored.now tally words.now labels.now sums.old out.old }
 {
-    let parents = answers::parents(words, labels, out);
-    let distances = answers::distances(words, labels, sums);
+    let parents = operations::parents(words, labels, out);
+    let distances = operations::distances(words, labels, sums);
     let between = compare(rt, stored, tally, "parents", parents);
     compare(rt, stored, between, "distances", distances)
 }
@@ -79,13 +75,13 @@ fn compare_lists(
 ) -> Tally
     ensures { result ≡ lists_compared stored.now tally words.now labels.now work.old out.old }
 {
-    let normal = answers::normal(words, labels, false, work, out);
+    let normal = operations::normal(words, labels, false, work, out);
     let first = compare(rt, stored, tally, "normal list", normal);
-    let explicit = answers::normal(words, labels, true, work, out);
+    let explicit = operations::normal(words, labels, true, work, out);
     let second = compare(rt, stored, first, "explicit normal list", explicit);
-    let packed = answers::packed(words, labels, false, work, out);
+    let packed = operations::packed(words, labels, false, work, out);
     let third = compare(rt, stored, second, "packed list", packed);
-    let packed_explicit = answers::packed(words, labels, true, work, out);
+    let packed_explicit = operations::packed(words, labels, true, work, out);
     compare(rt, stored, third, "explicit packed list", packed_explicit)
 }
 
@@ -107,11 +103,9 @@ fn compare_texts(
         work.old sums.old bytes.old 5 }
 {
     let mut now = tally;
-    let mut style: u32 = 0;
-    while style < 5 {
-        let answer = answers::text(words, labels, style, layout, work, sums, bytes);
-        now = compare(rt, stored, now, TEXT_NAMES[style as usize], answer);
-        style += 1;
+    for (style, name) in TEXT_NAMES.iter().enumerate() {
+        let answer = operations::text(words, labels, style as u32, layout, work, sums, bytes);
+        now = compare(rt, stored, now, name, answer);
     }
     now
 }
@@ -141,7 +135,7 @@ fn compare_layout(
         first: word(stored, at + 8),
     };
     let begun = tally.moved_to(at + 12).with_layout();
-    let both = answers::label_letters(words, labels, layout, work, sums, out, bytes);
+    let both = operations::label_letters(words, labels, layout, work, sums, out, bytes);
     let listed = compare(rt, stored, begun, "label list", both.labels);
     let lettered = compare(rt, stored, listed, "letters", both.letters);
     compare_texts(
@@ -162,13 +156,11 @@ fn compare_layouts(
     bytes: &mut [u8],
 ) -> Tally {
     let mut now = tally;
-    let mut i: u32 = 0;
-    while i < layouts {
+    for _ in 0..layouts {
         now = compare_layout(rt, stored, now, words, labels, work, sums, out, bytes);
         if !now.well_formed {
             return now;
         }
-        i += 1;
     }
     now
 }
@@ -208,8 +200,8 @@ pub fn compare_table(
     if left(stored, at) < 12 {
         return tally.malformed();
     }
-    let count = wide(word(stored, at));
-    let size = wide(word(stored, at + 4));
+    let count = word(stored, at) as usize;
+    let size = word(stored, at + 4) as usize;
     let layouts = word(stored, at + 8);
     let start = at + 12;
     if words.len() < count {

@@ -1,6 +1,39 @@
 // The hash by which an answer is stored: h = 1, then h = (31 × h + x + 1) mod 4,294,967,291 for each element x.
-ghost use Rattle.std.specs.Prelude.{◌≡◌, ◌<◌, length};
+ghost use Rattle.std.specs.Prelude.{◌≡◌, ◌<◌, ℕ, length, map};
 ghost use Rattle.vectors.specs.Hash.{hashed, hash_to};
+
+// An element of an output: a word, a distance, or a byte of letters or of a text.
+pub trait Element: Copy {
+    // The number that it is.
+    ghost number: { Self → ℕ };
+
+    fn wide(self) -> u32
+        ensures { result ≡ number self };
+}
+
+impl Element for u32 {
+    ghost number = { λ x. x };
+
+    fn wide(self) -> u32 {
+        self
+    }
+}
+
+impl Element for u16 {
+    ghost number = { λ x. x };
+
+    fn wide(self) -> u32 {
+        self as u32
+    }
+}
+
+impl Element for u8 {
+    ghost number = { λ x. x };
+
+    fn wide(self) -> u32 {
+        self as u32
+    }
+}
 
 fn hashed(h: u64, x: u32) -> u64
     requires { h < 4294967291 }
@@ -9,53 +42,12 @@ fn hashed(h: u64, x: u32) -> u64
     (31 * h + x as u64 + 1) % 4294967291
 }
 
-pub fn hash_words(words: &[u32]) -> u64
-    ensures { result ≡ hash_to words.now (length words.now) }
+pub fn hash<T: Element>(elements: &[T]) -> u64
+    ensures { result ≡ hash_to (map T.number elements.now) (length elements.now) }
 {
     let mut h: u64 = 1;
-    let mut i: usize = 0;
-    while i < words.len() {
-        h = hashed(h, words[i]);
-        i += 1;
-    }
-    h
-}
-
-// As a call, a cast of a slice's element is known to fit.
-fn wide_short(x: u16) -> u32
-    ensures { result ≡ x }
-{
-    x as u32
-}
-
-// The same of distances.
-pub fn hash_shorts(shorts: &[u16]) -> u64
-    ensures { result ≡ hash_to shorts.now (length shorts.now) }
-{
-    let mut h: u64 = 1;
-    let mut i: usize = 0;
-    while i < shorts.len() {
-        h = hashed(h, wide_short(shorts[i]));
-        i += 1;
-    }
-    h
-}
-
-fn wide_byte(x: u8) -> u32
-    ensures { result ≡ x }
-{
-    x as u32
-}
-
-// The same of letters and texts.
-pub fn hash_bytes(bytes: &[u8]) -> u64
-    ensures { result ≡ hash_to bytes.now (length bytes.now) }
-{
-    let mut h: u64 = 1;
-    let mut i: usize = 0;
-    while i < bytes.len() {
-        h = hashed(h, wide_byte(bytes[i]));
-        i += 1;
+    for x in elements {
+        h = hashed(h, x.wide());
     }
     h
 }

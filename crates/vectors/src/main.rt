@@ -2,10 +2,10 @@
 // printed for each that differs, and at the end how many there were. tests/vectors makes the data.
 #![tactic(auto)]
 
-mod answers; // answers.rt: what the library answers
 mod compare; // compare.rt: the stored answers of one table, compared
 mod hash; // hash.rt: the hash by which an answer is stored
 mod input; // input.rt: standard input, read whole
+mod operations; // operations.rt: what the library answers
 mod printing; // printing.rt: text printed
 mod tally; // tally.rt: how far the data is compared, and what came of it
 

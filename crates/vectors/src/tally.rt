@@ -4,7 +4,7 @@ ghost use Rattle.vectors.specs.Tallies.{more, nothing_yet, malformed_at, moved_t
 
 use crate::printing::print;
 
-#[derive(Clone, Copy)]
+#[derive(Clone, Copy, Debug, PartialEq, Eq)]
 pub struct Tally {
     // the place in the data
     pub at: usize,
@@ -102,11 +102,9 @@ impl Tally {
 }
 
 // One more, as far as can be counted.
+#[tactic(auto, using(crate::proofs::TallyLaws::one_more))]
 fn more(count: u64) -> u64
     ensures { result ≡ more count }
 {
-    if count < 18446744073709551615 {
-        return count + 1;
-    }
-    count
+    count.saturating_add(1)
 }

@@ -2,7 +2,11 @@
 -- Assumes nothing.
 use mathlib.Core.Path.{◌≡◌, sym, ap, ◌∙◌}
 use mathlib.Core.Logic.{◌≢◌}
-use mathlib.Core.Bool.{true, false}
+use mathlib.Core.Bool.{Bool, true, false, not}
+use borrow.Author.Tests.{not-true, not-false}
+use lib.Dec.{eqb}
+use lib.Pointwise.{pointwise}
+use Rattle.laws.specs.Library.{pointwise_same}
 use mathlib.Core.List.{List}
 use Prim.Native.Nat.{ℕ}
 use lib.ListN.{length, take}
@@ -13,8 +17,16 @@ use Rattle.defs.specs.Replay.{replay_outcome}
 use Rattle.verify.specs.Gave.{gave, replay_same}
 use Rattle.verify.specs.Verified.{unless, read_again}
 use Rattle.verify.specs.declared.verdict.Stage.{Stage}
-use Rattle.verify.specs.declared.verdict.Verdict.{Verdict}
-use Rattle.verify.specs.declared.verdict.Verdict.TheVariants.{Agree, Refused, Differ}
+use Rattle.verify.specs.Verdicts.{Verdict}
+use Rattle.verify.specs.Verdicts.{Agree, Refused, Differ}
+
+-- what `!=` says of two slices
+module _ (unequal : Bool) (xs ys : List ℕ) (is : unequal ≡ not (pointwise eqb xs ys)) where
+  pub unlike : unequal ≡ true → same xs ys ≡ false
+  unlike e = sym (pointwise_same xs ys) ∙ not-true _ (sym is ∙ e)
+
+  pub alike : unequal ≡ false → same xs ys ≡ true
+  alike e = sym (pointwise_same xs ys) ∙ not-false _ (sym is ∙ e)
 
 -- only the lengths of the slices lent count
 pub again_same : (stage : Stage) (w b steps built kids work work' entries entries' children children' : List ℕ)
@@ -43,6 +55,7 @@ module _ (stage : Stage) (w b steps built kids work entries children entries' ch
     unfolding read_again unless
     children_differ v e other = e ∙ rw (is, fine, other, and_false (same (take first entries') built))
 
-    pub read_agrees : (v : Verdict) → v ≡ Agree → same (take first entries') built ≡ true → same (take second children') kids ≡ true → v ≡ read_again stage w b steps built kids work entries children
+    pub read_agrees : (v : Verdict) → v ≡ Agree → same (take first entries') built ≡ true → same (take second children') kids ≡ true
+        → v ≡ read_again stage w b steps built kids work entries children
     unfolding read_again unless
     read_agrees v e equal₁ equal₂ = e ∙ rw (is, fine, equal₁, equal₂)

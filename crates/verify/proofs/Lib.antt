@@ -1,3 +1,4 @@
+mod StageLaws
 mod AgainLaws
 mod WalkLaws
 mod SpelledLaws

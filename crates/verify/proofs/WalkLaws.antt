@@ -15,11 +15,14 @@ use Rattle.verify.specs.Verified.{unless, agreeing, read_again, packed_gave, bui
 use Rattle.verify.specs.Came.{Held, Came}
 use Rattle.verify.proofs.AgainLaws.{again_same}
 use Rattle.verify.specs.declared.verdict.Stage.TheVariants.{PackedList, PackedRead, NormalList, NormalRead}
-use Rattle.verify.specs.declared.verdict.Verdict.{Verdict}
-use Rattle.verify.specs.declared.verdict.Verdict.TheVariants.{Agree, Refused, Differ}
+use Rattle.verify.specs.Verdicts.{Verdict, told}
+use Rattle.verify.specs.Verdicts.{Agree, Refused}
 use Rattle.verify.specs.declared.walks.Kept.{Kept}
-use Rattle.verify.specs.declared.walks.Lists.{Lists}
-use Rattle.verify.specs.declared.walks.Lists.TheVariants.{Ended, Read}
+use Rattle.std.specs.Prelude.{Result, Ok, Err}
+use Rattle.answers.specs.declared.refusals.Refusal.{Refusal}
+use Rattle.answers.specs.Refused.{refusal_number}
+use Rattle.verify.specs.declared.verdict.Disagreement.{Disagreement}
+use Rattle.verify.specs.declared.verdict.Disagreement.TheVariants as code
 
 -- what a step list gave
 list_gave : (w b : List ℕ) (packed : Bool) (work out out' : List ℕ) (n len : ℕ) (works : List (List ℕ)) → answer_one n len works out' ≡ step_list_outcome w b packed false work out
@@ -46,15 +49,15 @@ module _ (w b built kids work steps entries children steps' : List ℕ) (n len :
 
 module _ (w b work packed built kids packed' : List ℕ) (n len : ℕ) (works : List (List ℕ))
     (answered : answer_one n len works packed' ≡ step_list_outcome w b true false work packed) where
-  abbrev came : (packed'' built' kids' : List ℕ) → Lists → Type 0
+  abbrev came : (packed'' built' kids' : List ℕ) → Result Kept Disagreement → Type 0
   came packed'' built' kids' = Came (packed_way w b work packed built kids) (packed_gave w b work packed) (built_gave w b work packed built kids) packed'' built' kids'
 
   list_is : packed_gave w b work packed ≡ record { number = n; first = take len packed'; second = [] }
   list_is = list_gave w b true work packed packed' n len works answered
 
-  pub packed_refused : n ≢ 0 → (packed'' built' kids' : List ℕ) → came packed'' built' kids' (Ended (Refused PackedList n))
+  pub packed_refused : (r : Refusal) → n ≡ refusal_number r → n ≢ 0 → (packed'' built' kids' : List ℕ) → came packed'' built' kids' (Err (code.Refused PackedList r))
   unfolding Came packed_way unless
-  packed_refused bad packed'' built' kids' next = rw (list_is, eqb_no n 0 bad)
+  packed_refused r is bad packed'' built' kids' next = rw (list_is, eqb_no n 0 bad, ← is)
 
   module _ (fine : n ≡ 0) (work' : List ℕ) (kept : length work' ≡ length work) (m first second : ℕ) (works' : List (List ℕ)) (built' kids' : List ℕ)
       (reads : answer_two m first second works' built' kids' ≡ replay_outcome w b (take len packed') work' built kids) where
@@ -65,11 +68,11 @@ module _ (w b work packed built kids packed' : List ℕ) (n len : ℕ) (works : 
         ∙ sym (replay_same w b (take len packed') work work' built built kids kids kept refl refl)
         ∙ sym (ap gave reads)
 
-    pub packed_unread : m ≢ 0 → (packed'' built'' kids'' : List ℕ) → came packed'' built'' kids'' (Ended (Refused PackedRead m))
+    pub packed_unread : (r : Refusal) → m ≡ refusal_number r → m ≢ 0 → (packed'' built'' kids'' : List ℕ) → came packed'' built'' kids'' (Err (code.Refused PackedRead r))
     unfolding Came packed_way unless
-    packed_unread bad packed'' built'' kids'' next = rw (ap (λ (g : Gave). g.number) list_is, fine, read_is, eqb_no m 0 bad)
+    packed_unread r is bad packed'' built'' kids'' next = rw (ap (λ (g : Gave). g.number) list_is, fine, read_is, eqb_no m 0 bad, ← is)
 
-    pub packed_read : m ≡ 0 → (k : Kept) → k.packed ≡ len → k.built ≡ first → k.kids ≡ second → came packed' built' kids' (Read k)
+    pub packed_read : m ≡ 0 → (k : Kept) → k.packed ≡ len → k.built ≡ first → k.kids ≡ second → came packed' built' kids' (Ok k)
     unfolding Came packed_way unless
     packed_read good k e₁ e₂ e₃ =
         let fits = two_inside reads (replay_inside w b (take len packed') work' built kids) in
@@ -82,16 +85,16 @@ module _ (w b work packed built kids packed' : List ℕ) (n len : ℕ) (works : 
 
 -- ---- both
 
-pub held : (way : Verdict → Verdict) (list read : Gave) (packed built kids : List ℕ) (r : Lists) (k : Kept) → Came way list read packed built kids r → r ≡ Read k → Held way list read packed built kids k
+pub held : (way : Verdict → Verdict) (list read : Gave) (packed built kids : List ℕ) (r : Result Kept Disagreement) (k : Kept)
+    → Came way list read packed built kids r → r ≡ Ok k → Held way list read packed built kids k
 unfolding Came
 held way list read packed built kids r k came e = rw e at came
 
 -- a verdict that is not yes stays
-pub stays : (v next : Verdict) → ¬ (v ≡ Agree) → agreeing v next ≡ v
+stays : (d : Disagreement) (next : Verdict) → agreeing (told d) next ≡ told d
 unfolding agreeing
-stays Agree next h = absurd (h refl)
-stays (Refused stage number) next h = refl
-stays (Differ stage) next h = refl
+stays (code.Refused stage r) next = refl
+stays (code.Differ stage) next = refl
 
 normal_same : (w b built kids work work' steps entries children : List ℕ) → length work' ≡ length work
     → normal_way w b built kids work' steps entries children ≡ normal_way w b built kids work steps entries children
@@ -114,11 +117,12 @@ module _ (w b work packed steps built kids entries children : List ℕ) where
   abbrev ways : Verdict → Verdict
   ways = lists_way w b work packed steps built kids entries children
 
-  pub first_ended : (packed' built' kids' : List ℕ) (r : Lists) (v : Verdict) → Came way list read packed' built' kids' r → r ≡ Ended v → Came ways list read packed' built' kids' r
+  pub first_ended : (packed' built' kids' : List ℕ) (r : Result Kept Disagreement) (d : Disagreement) → Came way list read packed' built' kids' r → r ≡ Err d
+      → Came ways list read packed' built' kids' (Err d)
   unfolding Came lists_way
-  first_ended packed' built' kids' r v came e =
-      let ended : (next : Verdict) → way next ≡ v = rw e at came in
-      rw e (λ next. ended (agreeing (normal_way w b read.first read.second work steps entries children) next))
+  first_ended packed' built' kids' r d came e =
+      let ended : (next : Verdict) → way next ≡ told d = rw e at came in
+      (λ next. ended (agreeing (normal_way w b read.first read.second work steps entries children) next))
 
   module _ (packed' built' kids' : List ℕ) (k : Kept) (first : Held way list read packed' built' kids' k) (work' : List ℕ) (kept : length work' ≡ length work) (v : Verdict)
       (normal : v ≡ normal_way w b (take k.built built') (take k.kids kids') work' steps entries children) where
@@ -126,11 +130,11 @@ module _ (w b work packed steps built kids entries children : List ℕ) where
     normal_is =
         normal ∙ rw (first.built_kept.holds, first.kids_kept.holds) (normal_same w b read.first read.second work work' steps entries children kept)
 
-    pub normal_ended : ¬ (v ≡ Agree) → (packed'' built'' kids'' : List ℕ) → Came ways list read packed'' built'' kids'' (Ended v)
+    pub normal_ended : (d : Disagreement) → v ≡ told d → (packed'' built'' kids'' : List ℕ) → Came ways list read packed'' built'' kids'' (Err d)
     unfolding Came lists_way
-    normal_ended other packed'' built'' kids'' next = first.goes_on _ ∙ ap (λ (x : Verdict). agreeing x next) (sym normal_is) ∙ stays v next other
+    normal_ended d is packed'' built'' kids'' next = first.goes_on _ ∙ ap (λ (x : Verdict). agreeing x next) (sym normal_is ∙ is) ∙ stays d next
 
-    pub both_read : v ≡ Agree → Came ways list read packed' built' kids' (Read k)
+    pub both_read : v ≡ Agree → Came ways list read packed' built' kids' (Ok k)
     unfolding Came lists_way agreeing
     both_read agrees =
         record {

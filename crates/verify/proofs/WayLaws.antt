@@ -13,15 +13,12 @@ use Rattle.verify.specs.Verified.{read_again, packed_gave, built_gave, letters_g
 use Rattle.verify.specs.Came.{Held, Came}
 use Rattle.verify.specs.Spelled.{Spelt, Decoding}
 use Rattle.verify.proofs.AgainLaws.{again_same}
-use Rattle.verify.specs.declared.verdict.Stage.{Stage}
 use Rattle.verify.specs.declared.verdict.Stage.TheVariants.{Decoded, LettersRead}
-use Rattle.verify.specs.declared.verdict.Verdict.{Verdict}
-use Rattle.verify.specs.declared.verdict.Verdict.TheVariants.{Refused, Differ}
-use Rattle.verify.specs.declared.walks.Lists.{Lists}
-use Rattle.verify.specs.declared.walks.Lists.TheVariants.{Ended}
+use Rattle.verify.specs.Verdicts.{Verdict, told}
+use Rattle.verify.specs.Verdicts.{Differ}
+use Rattle.std.specs.Prelude.{Result, Ok, Err}
+use Rattle.verify.specs.declared.verdict.Disagreement.{Disagreement}
 use Rattle.verify.specs.declared.walks.Kept.{Kept}
-use Rattle.verify.specs.declared.spelled.Spelled.{Spelled}
-use Rattle.verify.specs.declared.spelled.Spelled.TheVariants as spelled
 
 -- ---- the decoded steps
 
@@ -44,17 +41,17 @@ decoded_lent w b steps packed built kids work work' entries entries' children ch
 
 -- ---- the letters
 
-pub spelt : (w b : List ℕ) (l : Layout) (work sums list letters steps steps' : List ℕ) (r : Spelled) (n : ℕ) → Decoding w b l work sums list letters steps steps' r → r ≡ spelled.Steps n
+pub spelt : (w b : List ℕ) (l : Layout) (work sums list letters steps steps' : List ℕ) (r : Result ℕ Disagreement) (n : ℕ) → Decoding w b l work sums list letters steps steps' r → r ≡ Ok n
     → Spelt w b l work sums list letters steps steps' n
 unfolding Decoding
 spelt w b l work sums list letters steps steps' r n came e = rw e at came
 
 module _ (w b : List ℕ) (l : Layout) (packed built kids work sums steps list letters entries children : List ℕ) where
-  pub letters_ended : (steps' : List ℕ) (r : Spelled) (stage : Stage) (number : ℕ) → Decoding w b l work sums list letters steps steps' r → r ≡ spelled.Refused stage number
-      → (v : Verdict) → v ≡ Refused stage number → v ≡ letters_way w b l packed built kids work sums steps list letters entries children
+  pub letters_ended : (steps' : List ℕ) (r : Result ℕ Disagreement) (d : Disagreement) → Decoding w b l work sums list letters steps steps' r → r ≡ Err d
+      → (v : Verdict) → v ≡ told d → v ≡ letters_way w b l packed built kids work sums steps list letters entries children
   unfolding Decoding letters_way
-  letters_ended steps' r stage number came e v is =
-      let ended : (next : Verdict) → spelled_way w b l work sums list letters steps next ≡ Refused stage number = rw e at came in
+  letters_ended steps' r d came e v is =
+      let ended : (next : Verdict) → spelled_way w b l work sums list letters steps next ≡ told d = rw e at came in
       is ∙ sym (ended _)
 
   pub letters_read : (steps' : List ℕ) (n : ℕ) → Spelt w b l work sums list letters steps steps' n → (work' : List ℕ) → length work' ≡ length work → (v : Verdict)
@@ -88,10 +85,10 @@ module _ (w b : List ℕ) (l : Layout) (m : Lent) where
   abbrev ways : Verdict → Verdict
   ways = lists_way w b m.work m.packed m.steps m.built m.kids m.entries m.children
 
-  pub lists_ended : (packed built kids : List ℕ) (r : Lists) (v : Verdict) → Came ways list read packed built kids r → r ≡ Ended v → v ≡ verified w b l m
+  pub lists_ended : (packed built kids : List ℕ) (r : Result Kept Disagreement) (d : Disagreement) → Came ways list read packed built kids r → r ≡ Err d → told d ≡ verified w b l m
   unfolding Came verified
-  lists_ended packed built kids r v came e =
-      let ended : (next : Verdict) → ways next ≡ v = rw e at came in
+  lists_ended packed built kids r d came e =
+      let ended : (next : Verdict) → ways next ≡ told d = rw e at came in
       sym (ended _)
 
   pub all_read : (packed built kids : List ℕ) (k : Kept) → Held ways list read packed built kids k → (work steps entries children : List ℕ)

@@ -14,7 +14,8 @@ unfolding wiped
 all_wiped m m' e₀ e₁ e₂ e₃ e₄ e₅ e₆ e₇ e₈ e₉ = rw (e₀, e₁, e₂, e₃, e₄, e₅, e₆, e₇, e₈, e₉)
 
 pub wiped_same : (m m' : Lent)
-    → length m'.work ≡ length m.work → length m'.sums ≡ length m.sums → length m'.packed ≡ length m.packed → length m'.steps ≡ length m.steps → length m'.list ≡ length m.list
+    → length m'.work ≡ length m.work → length m'.sums ≡ length m.sums → length m'.packed ≡ length m.packed → length m'.steps ≡ length m.steps
+    → length m'.list ≡ length m.list
     → length m'.letters ≡ length m.letters → length m'.built ≡ length m.built → length m'.kids ≡ length m.kids → length m'.entries ≡ length m.entries → length m'.children ≡ length m.children
     → wiped m' ≡ wiped m
 unfolding wiped

@@ -1,3 +1,4 @@
+pub mod Verdicts
 pub mod Gave
 pub mod Verified
 pub mod Came

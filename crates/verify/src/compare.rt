@@ -1,20 +1,10 @@
-// Two slices compared, and a step list read and compared with what was read before.
+// A step list read and compared with what was read before.
 ghost use Rattle.std.specs.Prelude.{◌≡◌};
-ghost use Rattle.laws.specs.Tools.{same};
+ghost use Rattle.verify.specs.Verdicts.{verdict_of};
 ghost use Rattle.verify.specs.Verified.{read_again};
 
-use crate::verdict::{Stage, Verdict};
+use crate::verdict::{Disagreement, Stage, at_stage};
 use replay::replay;
-use store::lookup::equal_from;
-
-pub fn equal(one: &[u32], other: &[u32]) -> bool
-    ensures { result ≡ same one.now other.now }
-{
-    if one.len() != other.len() {
-        return false;
-    }
-    equal_from(one, 0, other)
-}
 
 // The entries and the children both have to be those read before.
 pub fn read_again(
@@ -27,19 +17,16 @@ pub fn read_again(
     entries: &mut [u32],
     children: &mut [u32],
     stage: Stage,
-) -> Verdict
-    ensures { result ≡ read_again stage words.now labels.now steps.now built.now kids.now
+) -> Result<(), Disagreement>
+    ensures { verdict_of result ≡ read_again stage words.now labels.now steps.now built.now kids.now
         work.old entries.old children.old }
 {
-    let read = replay(words, labels, steps, work, entries, children);
-    if read.number != 0 {
-        return Verdict::Refused(stage, read.number);
+    let read = at_stage(stage, replay(words, labels, steps, work, entries, children))?;
+    if &entries[..read.first] != built {
+        return Err(Disagreement::Differ(stage));
     }
-    if !equal(&entries[..read.first], built) {
-        return Verdict::Differ(stage);
+    if &children[..read.second] != kids {
+        return Err(Disagreement::Differ(stage));
     }
-    if !equal(&children[..read.second], kids) {
-        return Verdict::Differ(stage);
-    }
-    Verdict::Agree
+    Ok(())
 }

@@ -2,11 +2,11 @@
 #![tactic(auto)]
 
 pub mod answer; // answer.rt: the public operation
-pub mod compare; // compare.rt: two slices, and a step list read and compared with what was read before
+pub mod compare; // compare.rt: a step list read and compared with what was read before
 pub mod spelled; // spelled.rt: the letters and the steps that they decode to
 pub mod verdict; // verdict.rt: what is answered
 pub mod walks; // walks.rt: the packed list and the normal list
 pub mod ways; // ways.rt: the letters read, and the three ways together
 
 pub use answer::verify;
-pub use verdict::{Stage, Verdict};
+pub use verdict::{Disagreement, Stage};

@@ -2,18 +2,12 @@
 ghost use Rattle.layout.specs.Layouts.{layout_of};
 ghost use Rattle.verify.specs.Spelled.{Decoding};
 
-use crate::verdict::Stage;
+use crate::verdict::{Disagreement, Stage, at_stage};
 use decode::decode;
 use layout::Layout;
 use order::label_letters;
 
-// A stage that refused, with its number, or how many words the decoded steps fill.
-#[derive(Clone, Copy)]
-pub enum Spelled {
-    Refused(Stage, u32),
-    Steps(usize),
-}
-
+// How many words the decoded steps fill.
 pub fn decode_letters(
     words: &[u32],
     labels: &[u8],
@@ -23,14 +17,12 @@ pub fn decode_letters(
     list: &mut [u32],
     letters: &mut [u8],
     steps: &mut [u32],
-) -> Spelled
+) -> Result<usize, Disagreement>
     ensures { Decoding words.now labels.now (layout_of layout) work.old sums.old list.old letters.old
         steps.old steps.new result }
 {
-    let written = label_letters(words, labels, layout, work, sums, list, letters);
-    if written.number != 0 {
-        return Spelled::Refused(Stage::Letters, written.number);
-    }
+    let answer = label_letters(words, labels, layout, work, sums, list, letters);
+    let written = at_stage(Stage::Letters, answer)?;
     let decoded = decode(
         words,
         labels,
@@ -38,8 +30,5 @@ pub fn decode_letters(
         &letters[..written.second],
         steps,
     );
-    if decoded.number != 0 {
-        return Spelled::Refused(Stage::Decoded, decoded.number);
-    }
-    Spelled::Steps(decoded.length)
+    at_stage(Stage::Decoded, decoded)
 }

@@ -1,7 +1,11 @@
 // What the comparison of the three ways answers.
+ghost use Rattle.std.specs.Prelude.{◌≡◌};
+ghost use Rattle.verify.specs.Verdicts.{at_stage};
+
+use answers::Refusal;
 
 // The operations in the order in which they are called.
-#[derive(Clone, Copy)]
+#[derive(Clone, Copy, Debug, PartialEq, Eq)]
 pub enum Stage {
     PackedList,
     PackedRead,
@@ -12,10 +16,19 @@ pub enum Stage {
     LettersRead,
 }
 
-// Refused: the operation of this stage gave that number of document 01. Differ: what it wrote is not what the packed list gave.
-#[derive(Clone, Copy)]
-pub enum Verdict {
-    Agree,
-    Refused(Stage, u32),
+// Why the three ways do not agree. Refused: the operation of this stage refused. Differ: what it wrote is not what the packed list gave.
+#[derive(Clone, Copy, Debug, PartialEq, Eq)]
+pub enum Disagreement {
+    Refused(Stage, Refusal),
     Differ(Stage),
+}
+
+// What the operation of a stage answered: its refusal ends the comparison.
+pub fn at_stage<T>(stage: Stage, answer: Result<T, Refusal>) -> Result<T, Disagreement>
+    ensures { result ≡ at_stage stage answer }
+{
+    match answer {
+        Ok(given) => Ok(given),
+        Err(refusal) => Err(Disagreement::Refused(stage, refusal)),
+    }
 }

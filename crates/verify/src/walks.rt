@@ -1,27 +1,21 @@
 // The packed list and the normal list, each written and read back. What the packed list gave is kept for the comparisons.
 ghost use Rattle.std.specs.Prelude.{◌≡◌};
+ghost use Rattle.verify.specs.Verdicts.{verdict_of};
 ghost use Rattle.verify.specs.Verified.{packed_way, normal_way, lists_way, packed_gave, built_gave};
 ghost use Rattle.verify.specs.Came.{Came};
 
 use crate::compare::read_again;
-use crate::verdict::{Stage, Verdict};
+use crate::verdict::{Disagreement, Stage, at_stage};
 use lists::normal::normal_list;
 use lists::packed::packed_list;
 use replay::replay;
 
 // How many words the packed list filled, how many the entries that it was read as, how many their children.
-#[derive(Clone, Copy)]
+#[derive(Clone, Copy, Debug, PartialEq, Eq)]
 pub struct Kept {
     pub packed: usize,
     pub built: usize,
     pub kids: usize,
-}
-
-// A verdict already, or what there is to compare with.
-#[derive(Clone, Copy)]
-pub enum Lists {
-    Ended(Verdict),
-    Read(Kept),
 }
 
 // The packed list, written and read.
@@ -32,22 +26,18 @@ fn read_packed(
     packed: &mut [u32],
     built: &mut [u32],
     kids: &mut [u32],
-) -> Lists
+) -> Result<Kept, Disagreement>
     ensures { Came (packed_way words.now labels.now work.old packed.old built.old kids.old)
         (packed_gave words.now labels.now work.old packed.old)
         (built_gave words.now labels.now work.old packed.old built.old kids.old)
         packed.new built.new kids.new result }
 {
     let list = packed_list(words, labels, false, work, packed);
-    if list.number != 0 {
-        return Lists::Ended(Verdict::Refused(Stage::PackedList, list.number));
-    }
-    let read = replay(words, labels, &packed[..list.length], work, built, kids);
-    if read.number != 0 {
-        return Lists::Ended(Verdict::Refused(Stage::PackedRead, read.number));
-    }
-    Lists::Read(Kept {
-        packed: list.length,
+    let length = at_stage(Stage::PackedList, list)?;
+    let answer = replay(words, labels, &packed[..length], work, built, kids);
+    let read = at_stage(Stage::PackedRead, answer)?;
+    Ok(Kept {
+        packed: length,
         built: read.first,
         kids: read.second,
     })
@@ -63,18 +53,16 @@ fn read_normal(
     steps: &mut [u32],
     entries: &mut [u32],
     children: &mut [u32],
-) -> Verdict
-    ensures { result ≡ normal_way words.now labels.now built.now kids.now
+) -> Result<(), Disagreement>
+    ensures { verdict_of result ≡ normal_way words.now labels.now built.now kids.now
         work.old steps.old entries.old children.old }
 {
     let list = normal_list(words, labels, false, work, steps);
-    if list.number != 0 {
-        return Verdict::Refused(Stage::NormalList, list.number);
-    }
+    let length = at_stage(Stage::NormalList, list)?;
     read_again(
         words,
         labels,
-        &steps[..list.length],
+        &steps[..length],
         built,
         kids,
         work,
@@ -95,18 +83,15 @@ pub fn read_lists(
     kids: &mut [u32],
     entries: &mut [u32],
     children: &mut [u32],
-) -> Lists
+) -> Result<Kept, Disagreement>
     ensures { Came (lists_way words.now labels.now work.old packed.old steps.old
         built.old kids.old entries.old children.old)
         (packed_gave words.now labels.now work.old packed.old)
         (built_gave words.now labels.now work.old packed.old built.old kids.old)
         packed.new built.new kids.new result }
 {
-    let first = read_packed(words, labels, work, packed, built, kids);
-    let Lists::Read(kept) = first else {
-        return first;
-    };
-    let verdict = read_normal(
+    let kept = read_packed(words, labels, work, packed, built, kids)?;
+    read_normal(
         words,
         labels,
         &built[..kept.built],
@@ -115,9 +100,6 @@ pub fn read_lists(
         steps,
         entries,
         children,
-    );
-    let Verdict::Agree = verdict else {
-        return Lists::Ended(verdict);
-    };
-    Lists::Read(kept)
+    )?;
+    Ok(kept)
 }

@@ -1,12 +1,13 @@
 // The letters read and compared with what the packed list gave, and the three ways together.
 ghost use Rattle.std.specs.Prelude.{◌≡◌};
 ghost use Rattle.layout.specs.Layouts.{layout_of};
+ghost use Rattle.verify.specs.Verdicts.{verdict_of};
 ghost use Rattle.verify.specs.Verified.{decoded_way, letters_way, lent, verified};
 
-use crate::compare::{equal, read_again};
-use crate::spelled::{Spelled, decode_letters};
-use crate::verdict::{Stage, Verdict};
-use crate::walks::{Lists, read_lists};
+use crate::compare::read_again;
+use crate::spelled::decode_letters;
+use crate::verdict::{Disagreement, Stage};
+use crate::walks::read_lists;
 use layout::Layout;
 
 // The decoded list has to be the packed list, and to be read as it was.
@@ -20,12 +21,12 @@ fn read_decoded(
     work: &mut [u32],
     entries: &mut [u32],
     children: &mut [u32],
-) -> Verdict
-    ensures { result ≡ decoded_way words.now labels.now steps.now packed.now built.now kids.now
+) -> Result<(), Disagreement>
+    ensures { verdict_of result ≡ decoded_way words.now labels.now steps.now packed.now built.now kids.now
         work.old entries.old children.old }
 {
-    if !equal(steps, packed) {
-        return Verdict::Differ(Stage::Decoded);
+    if steps != packed {
+        return Err(Disagreement::Differ(Stage::Decoded));
     }
     let stage = Stage::LettersRead;
     read_again(
@@ -48,19 +49,15 @@ fn read_letters(
     letters: &mut [u8],
     entries: &mut [u32],
     children: &mut [u32],
-) -> Verdict
-    ensures { result ≡ letters_way words.now labels.now (layout_of layout) packed.now built.now kids.now
+) -> Result<(), Disagreement>
+    ensures { verdict_of result ≡ letters_way words.now labels.now (layout_of layout) packed.now built.now kids.now
         work.old sums.old steps.old list.old letters.old entries.old children.old }
 {
-    match decode_letters(words, labels, layout, work, sums, list, letters, steps) {
-        Spelled::Refused(stage, number) => Verdict::Refused(stage, number),
-        Spelled::Steps(n) => {
-            let decoded = &steps[..n];
-            read_decoded(
-                words, labels, decoded, packed, built, kids, work, entries, children,
-            )
-        }
-    }
+    let n = decode_letters(words, labels, layout, work, sums, list, letters, steps)?;
+    let decoded = &steps[..n];
+    read_decoded(
+        words, labels, decoded, packed, built, kids, work, entries, children,
+    )
 }
 
 // The packed list and the normal list, then the letters.
@@ -78,29 +75,27 @@ pub fn read_all(
     kids: &mut [u32],
     entries: &mut [u32],
     children: &mut [u32],
-) -> Verdict
-    ensures { result ≡ verified words.now labels.now (layout_of layout)
+) -> Result<(), Disagreement>
+    ensures { verdict_of result ≡ verified words.now labels.now (layout_of layout)
         (lent work.old sums.old packed.old steps.old list.old
         letters.old built.old kids.old entries.old children.old) }
 {
-    match read_lists(
+    let kept = read_lists(
         words, labels, work, packed, steps, built, kids, entries, children,
-    ) {
-        Lists::Ended(verdict) => verdict,
-        Lists::Read(kept) => read_letters(
-            words,
-            labels,
-            layout,
-            &packed[..kept.packed],
-            &built[..kept.built],
-            &kids[..kept.kids],
-            work,
-            sums,
-            steps,
-            list,
-            letters,
-            entries,
-            children,
-        ),
-    }
+    )?;
+    read_letters(
+        words,
+        labels,
+        layout,
+        &packed[..kept.packed],
+        &built[..kept.built],
+        &kids[..kept.kids],
+        work,
+        sums,
+        steps,
+        list,
+        letters,
+        entries,
+        children,
+    )
 }

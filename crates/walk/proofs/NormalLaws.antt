@@ -19,7 +19,7 @@ use Rattle.walk.specs.Entries.{size, Entries, kids_length, kid_below, entries_fa
 use Rattle.walk.specs.Hyps.{parent_of, index_of}
 use Rattle.walk.specs.Steps.{step}
 use Rattle.walk.specs.Normal.{pair_size, entry_on, next_on, Stacked, rest, parent_at, index_at, left, Begins, came}
-use Rattle.walk.specs.declared.normal.Taken.TheVariants.{Step as Next, Done}
+use Rattle.std.specs.Prelude.{Some, None}
 use Rattle.walk.specs.declared.hyps.ParentHyp.{ParentHyp}
 use Rattle.table.specs.declared.numbers.StatementNo.{StatementNo}
 
@@ -205,7 +205,7 @@ module _ (es cs : List ℕ) (ok : Entries es cs) (explicit : Bool) (l : List Ste
     (done : child_count_in es (entry_on s d) ≤ next_on s d) (st : Stacked es s (d + 1)) where
   -- the top entry's own step was the head, and what lies below it is left
   pub popped : (statement : StatementNo) (hyp : ParentHyp) → statement.0 ≡ entry_stmt_in es (entry_on s d) → parent_of hyp ≡ parent_at es explicit s d
-      → index_of hyp ≡ index_at explicit s d → came es cs explicit l s (Next statement hyp d)
+      → index_of hyp ≡ index_at explicit s d → came es cs explicit l s (Some (record { statement = statement; hyp = hyp; depth = d }))
   unfolding came left graph_in
   popped statement hyp is parent index =
       let e : ℕ = entry_on s d in
@@ -218,7 +218,7 @@ module _ (es cs : List ℕ) (ok : Entries es cs) (explicit : Bool) (l : List Ste
         parent_few = rw parent (parent_few es cs ok explicit s d st);
       }
 
-pub none_left : (es cs : List ℕ) (explicit : Bool) (s : List ℕ) (d : ℕ) → d ≡ 0 → came es cs explicit (left es cs explicit s d) s Done
+pub none_left : (es cs : List ℕ) (explicit : Bool) (s : List ℕ) (d : ℕ) → d ≡ 0 → came es cs explicit (left es cs explicit s d) s None
 unfolding came left
 none_left es cs explicit s d z = rw z
 

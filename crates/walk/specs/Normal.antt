@@ -1,5 +1,5 @@
 -- The normal walk as what is left of it to come: a list of steps, by the pairs of the stack.
-use Rattle.std.specs.Prelude.{◌≡◌, Bool, List, [], ◌∷◌, ◌++◌, ℕ, zero, suc, ◌+◌, ◌*◌, ◌-◌, ◌<◌, ◌≤◌, length, drop}
+use Rattle.std.specs.Prelude.{◌≡◌, Bool, List, [], ◌∷◌, ◌++◌, ℕ, zero, suc, ◌+◌, ◌*◌, ◌-◌, ◌<◌, ◌≤◌, length, drop, Option, Some, None}
 use Rattle.std.proofs.Common.{subst}
 use Rattle.defs.specs.Table.{word, max_statements, entry_stmt_in}
 use Rattle.defs.specs.Graph.{Graph, graph_in}
@@ -7,10 +7,8 @@ use Rattle.defs.specs.Steps.{Step, parent_word, index_word, list_children, norma
 use Rattle.walk.specs.Entries.{size}
 use Rattle.walk.specs.Hyps.{parent_of, index_of}
 use Rattle.walk.specs.Steps.{step}
-use Rattle.table.specs.declared.numbers.StatementNo.{StatementNo}
 use Rattle.walk.specs.declared.hyps.ParentHyp.{ParentHyp}
 use Rattle.walk.specs.declared.normal.Taken.{Taken}
-use Rattle.walk.specs.declared.normal.Taken.TheVariants.{Step as Next, Done}
 
 -- ---- the stack: pairs of an entry and which of its children is next
 
@@ -66,17 +64,17 @@ pub record Stepped (es cs : List ℕ) (explicit : Bool) (l : List Step) (s : Lis
   pub parent_few : parent_of hyp ≤ max_statements
 
 -- or there was none
-unfoldable pub came : (es cs : List ℕ) (explicit : Bool) (l : List Step) (s : List ℕ) → Taken → Type 0
-came es cs explicit l s (Next statement hyp depth) = Stepped es cs explicit l s statement.0 hyp depth
-came es cs explicit l s Done = l ≡ []
+unfoldable pub came : (es cs : List ℕ) (explicit : Bool) (l : List Step) (s : List ℕ) → Option Taken → Type 0
+came es cs explicit l s (Some taken) = Stepped es cs explicit l s taken.statement.0 taken.hyp taken.depth
+came es cs explicit l s None = l ≡ []
 
 -- what a loop over the walk has at each turn
-pub came_step : (es cs : List ℕ) (explicit : Bool) (l : List Step) (s : List ℕ) (r : Taken) (statement : StatementNo) (hyp : ParentHyp) (depth : ℕ)
-    → came es cs explicit l s r → r ≡ Next statement hyp depth → Stepped es cs explicit l s statement.0 hyp depth
+pub came_step : (es cs : List ℕ) (explicit : Bool) (l : List Step) (s : List ℕ) (r : Option Taken) (taken : Taken)
+    → came es cs explicit l s r → r ≡ Some taken → Stepped es cs explicit l s taken.statement.0 taken.hyp taken.depth
 unfolding came
-came_step es cs explicit l s r statement hyp depth c e = subst (came es cs explicit l s) e c
+came_step es cs explicit l s r taken c e = subst (came es cs explicit l s) e c
 
 -- and at its end
-pub came_end : (es cs : List ℕ) (explicit : Bool) (l : List Step) (s : List ℕ) (r : Taken) → came es cs explicit l s r → r ≡ Done → l ≡ []
+pub came_end : (es cs : List ℕ) (explicit : Bool) (l : List Step) (s : List ℕ) (r : Option Taken) → came es cs explicit l s r → r ≡ None → l ≡ []
 unfolding came
 came_end es cs explicit l s r c e = subst (came es cs explicit l s) e c

@@ -9,12 +9,11 @@ ghost use Rattle.walk.specs.Children.{EntryOf, ChildrenOf};
 use crate::hyps::parent_word;
 use crate::marks::COUNTS;
 use table::entries::{child, child_count, child_start, statement_of};
-use table::numbers::wide;
 use table::sections::{child_section, entry_section};
 use table::{EntryNo, StatementNo};
 
 // Where the children of an entry stand in the child section, and the parent word that each carries.
-#[derive(Clone, Copy)]
+#[derive(Clone, Copy, Debug, PartialEq, Eq)]
 pub struct Children {
     pub first: usize,
     pub until: usize,
@@ -57,5 +56,5 @@ pub fn lists_children(words: &[u32], work: &[u32], e: EntryNo) -> bool
     ensures { result ≡ ltb (word work.now (entry_at e.0)) (counts_below * child_count_in (entry_words words.now) e.0) }
 {
     let at = e.0 as usize + 1;
-    wide(work[at]) < COUNTS * child_count(entry_section(words), e)
+    (work[at] as usize) < COUNTS * child_count(entry_section(words), e)
 }

@@ -9,13 +9,14 @@ use table::entries::statement_of;
 use table::{EntryNo, StatementNo};
 
 // The root, or the place that a step has among the hypotheses of its parent.
-#[derive(Clone, Copy)]
+// As it is: an enum of its own and no Option, since document 01 names this form: an enum taken apart at once, leaving early in the other case.
+#[derive(Clone, Copy, Debug, PartialEq, Eq)]
 pub enum ParentHyp {
     Root,
     Of { statement: StatementNo, index: u32 },
 }
 
-#[derive(Clone, Copy)]
+#[derive(Clone, Copy, Debug, PartialEq, Eq)]
 pub struct HypWords {
     pub parent: u32,
     pub index: u32,

@@ -12,8 +12,5 @@ pub const MARKED: u32 = 4294901760;
 pub fn mark_in(word: u32) -> u32
     ensures { result ≡ word - marked }
 {
-    if word < MARKED {
-        return 0;
-    }
-    word - MARKED
+    word.saturating_sub(MARKED)
 }

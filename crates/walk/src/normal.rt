@@ -7,20 +7,16 @@ ghost use Rattle.walk.specs.Normal.{pair_size, Stacked, Begins, parent_at, index
 
 use crate::hyps::{ParentHyp, child_hyp};
 use table::entries::{child, child_count, child_start, statement_of};
-use table::numbers::wide;
 use table::{EntryNo, StatementNo};
 
 pub const PAIR_WORDS: usize = 2;
 
-// The next step, with the depth of the stack after it; or none is left.
-#[derive(Clone, Copy)]
-pub enum Taken {
-    Step {
-        statement: StatementNo,
-        hyp: ParentHyp,
-        depth: usize,
-    },
-    Done,
+// A step that was taken, with the depth of the stack after it.
+#[derive(Clone, Copy, Debug, PartialEq, Eq)]
+pub struct Taken {
+    pub statement: StatementNo,
+    pub hyp: ParentHyp,
+    pub depth: usize,
 }
 
 // The walk from root is to come: the stack is one pair deep.
@@ -50,35 +46,36 @@ fn top_hyp(entries: &[u32], stack: &[u32], explicit: bool, top: usize) -> Parent
     )
 }
 
-// An entry whose children are all listed is next itself; else its next child goes on the stack. That leaves what is to come as it was.
+// The next step; none where none is left. An entry whose children are all listed is next itself; else its next child goes on the stack,
+// which leaves what is to come as it was.
 pub fn next(
     entries: &[u32],
     children: &[u32],
     stack: &mut [u32],
     explicit: bool,
     depth: usize,
-) -> Taken
+) -> Option<Taken>
     requires entries { Entries entries.now children.now }
     requires stacked { Stacked entries.now stack.old depth }
     ensures { came entries.now children.now explicit
         (left entries.now children.now explicit stack.old depth) stack.new result }
 {
     if depth == 0 {
-        return Taken::Done;
+        return None;
     }
     let mut top = depth - 1;
     loop {
         let at = PAIR_WORDS * top;
         let e = EntryNo(stack[at]);
         let k = stack[at + 1];
-        if child_count(entries, e) <= wide(k) {
-            return Taken::Step {
+        if child_count(entries, e) <= k as usize {
+            return Some(Taken {
                 statement: statement_of(entries, e),
                 hyp: top_hyp(entries, &stack[..], explicit, top),
                 depth: top,
-            };
+            });
         }
-        let c = child(children, child_start(entries, e) + wide(k));
+        let c = child(children, child_start(entries, e) + k as usize);
         stack[at + 1] = k + 1;
         stack[at + 2] = c.0;
         stack[at + 3] = 0;

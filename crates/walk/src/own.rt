@@ -6,7 +6,8 @@ ghost use Rattle.defs.specs.Table.{word};
 ghost use Rattle.walk.specs.Packed.{entry_at, held, single, finishes, Room};
 
 use crate::marks::{MARKED, mark_in};
-use crate::steps::{STEP_WORDS, put_step};
+use crate::steps::put_step;
+use table::limits::STEP_WORDS;
 use table::{EntryNo, StatementNo};
 
 // A back reference has no statement.

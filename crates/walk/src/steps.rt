@@ -3,8 +3,6 @@ ghost use Rattle.std.specs.Prelude.{◌≡◌, ◌+◌, ◌≤◌, length};
 ghost use Rattle.defs.specs.Steps.{step_size};
 ghost use Rattle.walk.specs.Steps.{step, with_step};
 
-pub const STEP_WORDS: usize = 5;
-
 pub fn put_step(
     list: &mut [u32],
     at: usize,

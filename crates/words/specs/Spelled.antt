@@ -1,5 +1,5 @@
 -- A word by its parts: where its labels lie, the numbers of its names, and the bytes that they spell.
-use Rattle.std.specs.Prelude.{◌≡◌, Bool, List, [], ◌∷◌, ◌++◌, ℕ, ◌+◌, ◌-◌, ◌<◌, ◌≤◌, length, eqb}
+use Rattle.std.specs.Prelude.{◌≡◌, Option, Some, None, IfSome, Bool, List, [], ◌∷◌, ◌++◌, ℕ, ◌+◌, ◌-◌, ◌<◌, ◌≤◌, length, eqb}
 use Rattle.laws.specs.Tools.{pick, part}
 use Rattle.defs.specs.Bytes.{colon, equals_sign}
 use Rattle.defs.specs.Table.{word, max_label_length, label_start_in, label_length_in, hyp_start_in}
@@ -11,9 +11,6 @@ use Rattle.words.specs.declared.spans.Span.{Span}
 use Rattle.words.specs.declared.word.Word.{Word}
 
 -- ---- where labels lie
-
-abbrev pub no_span : Span
-no_span = record { start = 0; length = 0 }
 
 -- the label of statement k
 abbrev pub span_of : List ℕ → ℕ → Span
@@ -31,8 +28,8 @@ unfoldable pub hyp_statement : (ss hs : List ℕ) (theorem parent index : ℕ) �
 hyp_statement ss hs theorem parent index = pick (eqb parent 0) theorem (word hs (hyp_start_in ss (parent - 1) + index))
 
 -- its label, in an explicit list
-unfoldable pub hyp_span : (ss hs : List ℕ) (theorem : ℕ) (explicit : Bool) (parent index : ℕ) → Span
-hyp_span ss hs theorem explicit parent index = pick explicit (span_of ss (hyp_statement ss hs theorem parent index)) no_span
+unfoldable pub hyp_span : (ss hs : List ℕ) (theorem : ℕ) (explicit : Bool) (parent index : ℕ) → Option Span
+hyp_span ss hs theorem explicit parent index = pick explicit (Some (span_of ss (hyp_statement ss hs theorem parent index))) None
 
 -- the parent's record and its list stand in their sections, and so does the record of the hypothesis
 pub record HypReady (ss hs : List ℕ) (theorem parent index : ℕ) : Type 0 where
@@ -43,21 +40,24 @@ pub record HypReady (ss hs : List ℕ) (theorem parent index : ℕ) : Type 0 whe
 -- ---- the word
 
 -- of a step with these words, whose mark and reference have these numbers for names
-abbrev pub word_of : (ss hs : List ℕ) (theorem : ℕ) (explicit : Bool) (mark reference statement parent index : ℕ) → Word
+abbrev pub word_of : (ss hs : List ℕ) (theorem : ℕ) (explicit : Bool) (mark reference : Option ℕ) (statement parent index : ℕ) → Word
 word_of ss hs theorem explicit mark reference statement parent index =
     record { mark = mark; hyp = hyp_span ss hs theorem explicit parent index; label = span_of ss statement; reference = reference }
 
 -- the mark's name and a colon
-unfoldable pub mark_part : ℕ → List ℕ
-mark_part number = pick (eqb number 0) [] (digits number ++ colon ∷ [])
+unfoldable pub mark_part : Option ℕ → List ℕ
+mark_part None = []
+mark_part (Some number) = digits number ++ colon ∷ []
 
 -- the hypothesis' label and an equals sign
-unfoldable pub hyp_part : List ℕ → Span → List ℕ
-hyp_part labels hyp = pick (eqb hyp.length 0) [] (part hyp.start hyp.length labels ++ equals_sign ∷ [])
+unfoldable pub hyp_part : List ℕ → Option Span → List ℕ
+hyp_part labels None = []
+hyp_part labels (Some hyp) = part hyp.start hyp.length labels ++ equals_sign ∷ []
 
 -- the label, or the referred name
-unfoldable pub last_part : List ℕ → Span → ℕ → List ℕ
-last_part labels label reference = pick (eqb reference 0) (part label.start label.length labels) (digits reference)
+unfoldable pub last_part : List ℕ → Span → Option ℕ → List ℕ
+last_part labels label None = part label.start label.length labels
+last_part labels label (Some reference) = digits reference
 
 -- all of it
 unfoldable pub spelled : List ℕ → Word → List ℕ
@@ -66,26 +66,30 @@ spelled labels v = mark_part v.mark ++ hyp_part labels v.hyp ++ last_part labels
 -- ---- how long it is
 
 abbrev pub WordShort : Word → Type 0
-WordShort v = (v.hyp.length ≤ max_label_length) × (v.label.length ≤ max_label_length)
+WordShort v = IfSome v.hyp (λ s. s.length ≤ max_label_length) × (v.label.length ≤ max_label_length)
 
 pub record WordInside (labels : List ℕ) (v : Word) : Type 0 where
-  pub hyp_in : Inside labels v.hyp
+  pub hyp_in : IfSome v.hyp (Inside labels)
   pub label_is_in : Inside labels v.label
+
+-- a name and a colon
+abbrev pub most_mark : ℕ
+most_mark = most_digits + 1
 
 -- a name and a colon, a label and an equals sign, a label
 abbrev pub most_word : ℕ
-most_word = (most_digits + 1) + (max_label_length + 1) + max_label_length
+most_word = most_mark + (max_label_length + 1) + max_label_length
 
 -- and what stands before it
 abbrev pub most_laid : ℕ
 most_laid = most_before + most_word
 
 -- so long is a part, and a word, whatever the label bytes are in which it lies
-pub record HypLong (hyp : Span) (r : ℕ) : Type 0 where
+pub record HypLong (hyp : Option Span) (r : ℕ) : Type 0 where
   pub most : r ≤ max_label_length + 1
-  pub long : (labels : List ℕ) → Inside labels hyp → r ≡ length (hyp_part labels hyp)
+  pub long : (labels : List ℕ) → IfSome hyp (Inside labels) → r ≡ length (hyp_part labels hyp)
 
-pub record LastLong (label : Span) (reference r : ℕ) : Type 0 where
+pub record LastLong (label : Span) (reference : Option ℕ) (r : ℕ) : Type 0 where
   pub most : r ≤ max_label_length
   pub long : (labels : List ℕ) → Inside labels label → r ≡ length (last_part labels label reference)
 

@@ -1,5 +1,5 @@
 -- The words of a table's steps: what is looked up for a step in the sections of a table that is not refused spells the word of document 01.
-use Rattle.std.specs.Prelude.{◌≡◌, Bool, List, [], ◌∷◌, ◌++◌, ℕ, ◌+◌, ◌-◌, ◌<◌, length, get_or, eqb}
+use Rattle.std.specs.Prelude.{◌≡◌, Option, Some, None, IfSome, Bool, List, [], ◌∷◌, ◌++◌, ℕ, ◌+◌, ◌-◌, ◌<◌, length, get_or, eqb}
 use Rattle.std.proofs.Math.Path.{refl}
 use Rattle.std.proofs.Common.{sym, arith}
 use Rattle.std.proofs.Math.Bool.{true, false}
@@ -11,21 +11,20 @@ use Rattle.defs.specs.Table.{theorem, statements, statement_words, hyp_words, la
 use Rattle.defs.specs.Check.{table_refusal}
 use Rattle.defs.specs.Checked.{theorem_below}
 use Rattle.defs.specs.Sections.{statements_ok, hyps_ok}
-use Rattle.defs.specs.Names.{digits, name}
+use Rattle.defs.specs.Names.{name_number, name}
 use Rattle.defs.specs.Steps.{Step}
 use Rattle.defs.specs.Text.{hyp_prefix, step_word}
 use Rattle.table.specs.Records.{StatementIn}
-use Rattle.words.specs.Spelled.{no_span, span_of, Inside, hyp_statement, hyp_span, HypReady, word_of, mark_part, hyp_part, last_part, spelled, WordInside}
+use Rattle.words.specs.Spelled.{span_of, Inside, hyp_statement, hyp_span, HypReady, word_of, mark_part, hyp_part, last_part, spelled, WordInside}
 use Rattle.words.specs.Carried.{HypOk, StepSound}
 
--- the number that names mark m; 0 for no mark
-pub record NameIs (w b : List ℕ) (m number : ℕ) : Type 0 where
-  pub none : m ≡ 0 → number ≡ 0
-  pub some : ¬ (m ≡ 0) → ¬ (number ≡ 0)
-  pub named : ¬ (m ≡ 0) → digits number ≡ name w b m
+-- the number that names mark m; none for no mark
+pub record NameIs (w b : List ℕ) (m : ℕ) (number : Option ℕ) : Type 0 where
+  pub none : m ≡ 0 → number ≡ None
+  pub some : ¬ (m ≡ 0) → number ≡ Some (name_number w b m)
 
-pub no_name : (w b : List ℕ) (m : ℕ) → m ≡ 0 → NameIs w b m 0
-no_name w b m e = record { none = λ z. refl; some = λ h. absurd (h e); named = λ h. absurd (h e) }
+pub no_name : (w b : List ℕ) (m : ℕ) → m ≡ 0 → NameIs w b m None
+no_name w b m e = record { none = λ z. refl; some = λ h. absurd (h e) }
 
 module _ (w b : List ℕ) (ok : table_refusal w b ≡ 0) where
   abbrev ss : List ℕ
@@ -40,9 +39,6 @@ module _ (w b : List ℕ) (ok : table_refusal w b ≡ 0) where
 
   pub label_is_in : (k : ℕ) → k < statements w → Inside b (span_of ss k)
   label_is_in k l = record { inside = (statements_ok w b ok).label_inside k l; short = (statements_ok w b ok).label_most k l }
-
-  none_in : Inside b no_span
-  none_in = record { inside = omega arith; short = omega arith }
 
   module _ (parent index : ℕ) (h : HypOk ss (statements w) parent index) where
     -- the hypothesis of a step, as the table's lists have it
@@ -74,20 +70,18 @@ module _ (w b : List ℕ) (ok : table_refusal w b ≡ 0) where
           hyp_in = statement_in _ hyp_below;
         }
 
-    hyp_inside : (explicit : Bool) → Inside b (hyp_span ss hs (theorem w) explicit parent index)
+    hyp_inside : (explicit : Bool) → IfSome (hyp_span ss hs (theorem w) explicit parent index) (Inside b)
     unfolding hyp_span
     hyp_inside true = label_is_in _ hyp_below
-    hyp_inside false = none_in
+    hyp_inside false = tt
 
     hyp_part_lem : (explicit : Bool) (k : ℕ) → k ≡ pick (eqb parent 0) (theorem w) (get_or (hyps w (parent - 1)) index 0)
         → hyp_part b (hyp_span ss hs (theorem w) explicit parent index) ≡ pick explicit (label w b k ++ equals_sign ∷ []) []
     unfolding hyp_part hyp_span label_in
-    hyp_part_lem true k e =
-        let some = (statements_ok w b ok).label_some (hyp_statement ss hs (theorem w) parent index) hyp_below in
-        rw (eqb_no (span_of ss (hyp_statement ss hs (theorem w) parent index)).length 0 (λ z. omega arith), e, ← hyp_is)
+    hyp_part_lem true k e = rw (e, ← hyp_is)
     hyp_part_lem false k e = refl
 
-  module _ (t : Step) (m : ℕ) (sound : StepSound w m t) (explicit : Bool) (mark reference : ℕ) where
+  module _ (t : Step) (m : ℕ) (sound : StepSound w m t) (explicit : Bool) (mark reference : Option ℕ) where
     -- its labels lie where they should
     pub word_inside : WordInside b (word_of ss hs (theorem w) explicit mark reference t.stmt t.parent t.index)
     word_inside = record { hyp_in = hyp_inside t.parent t.index sound.hyp explicit; label_is_in = label_is_in t.stmt sound.fits.stmt_below }
@@ -98,18 +92,18 @@ module _ (w b : List ℕ) (ok : table_refusal w b ≡ 0) where
 
     module _ (mark_is : NameIs w b t.mark mark) (reference-is : NameIs w b t.ref reference) where
       mark_part_lem : mark_part mark ≡ pick (eqb t.mark 0) [] (name w b t.mark ++ colon ∷ [])
-      unfolding mark_part
+      unfolding mark_part name
       mark_part_lem =
           elim (ℕ_discrete t.mark 0) [
-            | yes e ↦ rw (eqb_yes t.mark 0 e, eqb_yes mark 0 (mark_is.none e))
-            | no e ↦ rw (eqb_no t.mark 0 e, eqb_no mark 0 (mark_is.some e), mark_is.named e)
+            | yes e ↦ rw (eqb_yes t.mark 0 e, mark_is.none e)
+            | no e ↦ rw (eqb_no t.mark 0 e, mark_is.some e)
           ]
 
       -- and spell its word
       pub word_spelled : spelled b (word_of ss hs (theorem w) explicit mark reference t.stmt t.parent t.index) ≡ step_word w b explicit t
-      unfolding spelled step_word last_part label_in
+      unfolding spelled step_word last_part label_in name
       word_spelled =
           elim (ℕ_discrete t.ref 0) [
-            | yes e ↦ rw (eqb_yes t.ref 0 e, eqb_yes reference 0 (reference-is.none e), mark_part_lem, prefix_is)
-            | no e ↦ rw (eqb_no t.ref 0 e, eqb_no reference 0 (reference-is.some e), mark_part_lem, eqb_yes t.mark 0 (sound.one_name e), prefix_is, reference-is.named e)
+            | yes e ↦ rw (eqb_yes t.ref 0 e, reference-is.none e, mark_part_lem, prefix_is)
+            | no e ↦ rw (eqb_no t.ref 0 e, reference-is.some e, mark_part_lem, eqb_yes t.mark 0 (sound.one_name e), prefix_is)
           ]

@@ -5,7 +5,6 @@ ghost use Rattle.words.specs.Spelled.{hyp_statement, hyp_span, HypReady};
 
 use crate::spans::{Span, label_span};
 use table::StatementNo;
-use table::numbers::wide;
 use table::statements::{hyp_start, hypothesis};
 use walk::hyps::ParentHyp;
 
@@ -22,7 +21,7 @@ fn hyp_statement(
     let ParentHyp::Of { statement, index } = hyp else {
         return theorem;
     };
-    hypothesis(hyps, hyp_start(statements, statement) + wide(index))
+    hypothesis(hyps, hyp_start(statements, statement) + index as usize)
 }
 
 // None unless the list is explicit.
@@ -32,12 +31,13 @@ pub fn hyp_span(
     theorem: StatementNo,
     explicit: bool,
     hyp: ParentHyp,
-) -> Span
+) -> Option<Span>
     requires { HypReady statements.now hyps.now theorem.0 (parent_of hyp) (index_of hyp) }
     ensures { result ≡ hyp_span statements.now hyps.now theorem.0 explicit (parent_of hyp) (index_of hyp) }
 {
     if explicit {
-        return label_span(statements, hyp_statement(statements, hyps, theorem, hyp));
+        Some(label_span(statements, hyp_statement(statements, hyps, theorem, hyp)))
+    } else {
+        None
     }
-    Span::none()
 }

@@ -1,27 +1,16 @@
 // Where a label lies among the label bytes.
 ghost use Rattle.std.specs.Prelude.{◌≡◌};
 ghost use Rattle.table.specs.Records.{StatementIn};
-ghost use Rattle.words.specs.Spelled.{span_of, no_span};
+ghost use Rattle.words.specs.Spelled.{span_of};
 
 use table::StatementNo;
 use table::statements::{label_length, label_start};
 
-// No label is empty, so a span of length 0 is none.
-#[derive(Clone, Copy)]
+// As it is: (d) a slice in its place would lend each word the label bytes, also where it is only measured, which asks for none.
+#[derive(Clone, Copy, Debug, PartialEq, Eq)]
 pub struct Span {
     pub start: usize,
     pub length: usize,
-}
-
-impl Span {
-    pub fn none() -> Self
-        ensures { result ≡ no_span }
-    {
-        Self {
-            start: 0,
-            length: 0,
-        }
-    }
 }
 
 pub fn label_span(statements: &[u32], k: StatementNo) -> Span

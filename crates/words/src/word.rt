@@ -16,14 +16,15 @@ use layout::{Layout, Line};
 use table::StatementNo;
 use walk::hyps::ParentHyp;
 
-#[derive(Clone, Copy)]
+#[derive(Clone, Copy, Debug, PartialEq, Eq)]
 pub struct Word {
-    // The number that names its mark, 0 for none.
-    pub mark: u32,
-    pub hyp: Span,
+    // The number that names its mark.
+    pub mark: Option<u32>,
+    // The label of the hypothesis that it stands for, in an explicit list.
+    pub hyp: Option<Span>,
     pub label: Span,
-    // The number that names the mark referred to, which stands in place of the label; 0 for none.
-    pub reference: u32,
+    // The number that names the mark referred to, which stands in place of the label.
+    pub reference: Option<u32>,
 }
 
 // The word of a step whose mark and reference have these numbers for names.
@@ -32,8 +33,8 @@ pub fn step_word(
     hyps: &[u32],
     theorem: StatementNo,
     explicit: bool,
-    mark: u32,
-    reference: u32,
+    mark: Option<u32>,
+    reference: Option<u32>,
     statement: StatementNo,
     hyp: ParentHyp,
 ) -> Word
@@ -60,9 +61,11 @@ pub fn plain_word(
 ) -> Word
     requires statement_in { StatementIn statements.now statement.0 }
     requires hyp_ready { HypReady statements.now hyps.now theorem.0 (parent_of hyp) (index_of hyp) }
-    ensures { result ≡ word_of statements.now hyps.now theorem.0 explicit 0 0 statement.0 (parent_of hyp) (index_of hyp) }
+    ensures { result ≡ word_of statements.now hyps.now theorem.0 explicit None None statement.0 (parent_of hyp) (index_of hyp) }
 {
-    step_word(statements, hyps, theorem, explicit, 0, 0, statement, hyp)
+    step_word(
+        statements, hyps, theorem, explicit, None, None, statement, hyp,
+    )
 }
 
 pub fn word_length(word: Word) -> usize

@@ -1,11 +1,7 @@
 -- `put_steps` meets its contract. The letters of the first i steps stand at the front, whatever list of steps the words say.
--- The measure is how many steps are left.
-use Prim.Native.Nat.{◌-◌}
+-- Each turn adds the letters of one step.
 use Rattle.lettering.proofs.Lemmas.{WroteTo}
 use Rattle.lettering.proofs.put_steps.Given as goal
 
 abbrev pub invariant-loop-i : goal.invariant-loop-i
 invariant-loop-i l = WroteTo l.steps l.many l.numbers l.both l.i l.end l.work l.initial.out l.out
-
-abbrev pub decreases-loop-i : goal.decreases-loop-i
-decreases-loop-i l = l.many - l.i

@@ -1,12 +1,8 @@
 -- `decode` meets its contract: the first i words are done.
--- The measure is how many are left.
-use Prim.Native.Nat.{◌-◌}
-use lib.ListN.{length}
-use Rattle.table_file.proofs.WordLaws.{Decoded}
+-- A store at i leaves the words below i.
+use Rattle.std.specs.Prelude.{◌≡◌, ℕ, ◌*◌, ◌<◌, get_or}
+use Rattle.table_file.specs.Words.{word_at}
 use Rattle.table_file.proofs.decode.Given as goal
 
 abbrev pub invariant-loop-i : goal.invariant-loop-i
-invariant-loop-i l = Decoded l.bytes l.initial.words l.words l.i l.at
-
-abbrev pub decreases-loop-i : goal.decreases-loop-i
-decreases-loop-i l = length l.initial.words - l.i
+invariant-loop-i l = (j : ℕ) → j < l.i → get_or l.words j 0 ≡ word_at l.bytes (4 * j)

@@ -1,12 +1,8 @@
--- `encode` meets its contract: the first i words are done.
--- The measure is how many are left.
-use Prim.Native.Nat.{◌-◌}
-use lib.ListN.{length}
-use Rattle.table_file.proofs.WordLaws.{Encoded}
+-- `encode` meets its contract: the bytes of the words before the turn's are put.
+-- A turn puts those of one word more.
+use Rattle.laws.specs.Puts.{Grows}
+use Rattle.table_file.specs.Words.{file_bytes}
 use Rattle.table_file.proofs.encode.Given as goal
 
-abbrev pub invariant-loop-i : goal.invariant-loop-i
-invariant-loop-i l = Encoded l.words l.initial.bytes l.bytes l.i l.at
-
-abbrev pub decreases-loop-i : goal.decreases-loop-i
-decreases-loop-i l = length l.words - l.i
+abbrev pub invariant-loop-word : goal.invariant-loop-word
+invariant-loop-word l = Grows (file_bytes l.words l.word-index) 0 l.at l.initial.bytes l.bytes

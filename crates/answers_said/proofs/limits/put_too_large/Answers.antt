@@ -7,7 +7,14 @@ use Rattle.answers_said.proofs.SaidLaws.{too_large_put, too_large_most}
 use Rattle.answers_said.proofs.limits.put_too_large.Goals as goal
 
 pub put_byte-requires : goal.put_byte-requires
-put_byte-requires c = omega (arith, c.put_decimal-numbered.ensures.ends, c.put_byte-parted.ensures.ends, c.put_piece-named.ensures.ends, c.put_piece-begun.ensures.ends, digits_most c.args.most (omega arith))
+put_byte-requires c = omega (
+  arith,
+  c.put_decimal-numbered.ensures.ends,
+  c.put_byte-parted.ensures.ends,
+  c.put_piece-named.ensures.ends,
+  c.put_piece-begun.ensures.ends,
+  digits_most c.args.most (omega arith),
+)
 
 pub returns : goal.returns
 unfolding bytes

@@ -1,5 +1,5 @@
 -- `line_end` meets its contract: what is still to come of the line is as long from each place on.
--- The measure is how many bytes are left.
+-- Where no newline is met, it ends with the text.
 use Rattle.answers_said.proofs.LineLaws.{line_ends, line_goes_on, text_ends}
 use Rattle.answers_said.specs.Lines.{line_length}
 use native.Mathlib.Omega.{arith}
@@ -9,7 +9,7 @@ use mathlib.Core.Path.{◌≡◌, refl}
 use Rattle.answers_said.proofs.lines.line_end.Goals as goal
 
 pub loop-i-init : goal.loop-i-init
-loop-i-init c = (omega arith, refl)
+loop-i-init c = refl
 
 pub returns-then-text-i-eq10 : goal.returns-then-text-i-eq10
 returns-then-text-i-eq10 c =
@@ -18,7 +18,7 @@ returns-then-text-i-eq10 c =
 pub loop-i-preserved : goal.loop-i-preserved
 loop-i-preserved c =
     let z : line_length (drop c.loop-i.i c.args.text.now) ≡ suc (line_length (drop (c.loop-i.i + 1) c.args.text.now)) = line_goes_on c.args.text.now c.loop-i.i (omega arith) c.if-text-i-eq10.false in
-    (omega arith, omega arith)
+    omega arith
 
 pub returns : goal.returns
 returns c =

@@ -9,4 +9,4 @@ use Rattle.answers_said.proofs.refusals.put_reason.Goals as goal
 
 pub returns : goal.returns
 unfolding joined reasons bytes
-returns c = reason_put _ _ _ _ _ refl c.wide.ensures c.put_line.ensures
+returns c = reason_put _ _ _ _ _ refl refl c.put_line.ensures

@@ -15,4 +15,7 @@ put_reason-requires c = omega (arith, c.put_piece-parted.ensures.ends, c.put_dec
 pub returns : goal.returns
 unfolding bytes
 returns c =
-    let g = refusal_put c.args.number c.put_piece-begun.ensures c.put_decimal-numbered.ensures c.put_piece-parted.ensures c.put_reason.ensures in record { grows = g; upper_bound = omega (arith, g.ends, refusal_most c.args.number (omega arith)) }
+    let g = refusal_put c.args.number c.put_piece-begun.ensures c.put_decimal-numbered.ensures c.put_piece-parted.ensures c.put_reason.ensures in record {
+      grows = g;
+      upper_bound = omega (arith, g.ends, refusal_most c.args.number (omega arith));
+    }

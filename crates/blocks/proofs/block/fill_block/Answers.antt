@@ -17,9 +17,6 @@ loop-line-init c =
       (refl, refl),
     )
 
-pub fill_line-line-requires : goal.fill_line-line-requires
-fill_line-line-requires c = c.loop-line.invariant.0.ready
-
 pub loop-line-smaller : goal.loop-line-smaller
 loop-line-smaller c =
     let p = c.loop-line in

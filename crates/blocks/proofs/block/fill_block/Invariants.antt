@@ -10,7 +10,8 @@ use Rattle.blocks.proofs.block.fill_block.Given as goal
 
 abbrev pub invariant-loop-line : goal.invariant-loop-line
 invariant-loop-line l =
-    Going l.n l.width l.start l.end l.initial.work (finished l.width (state l.n l.start l.initial.work l.position (l.start - l.n) (l.end - l.start))) l.line.position l.line.at l.line.count (length l.sums) l.work
+    Going l.n l.width l.start l.end l.initial.work (finished l.width (state l.n l.start l.initial.work l.position (l.start - l.n) (l.end - l.start)))
+    l.line.position l.line.at l.line.count (length l.sums) l.work
     × ((length l.work ≡ length l.initial.work) × (length l.sums ≡ length l.initial.sums))
 
 abbrev pub decreases-loop-line : goal.decreases-loop-line

@@ -1,17 +1,16 @@
 -- `fill_line` meets its contract: the laws of module Lines say what the choice, its emission and its removal leave.
 -- What each callee needs follows from `Ready` and from what the choice is.
 use native.Mathlib.Omega.{arith}
-use Rattle.blocks.proofs.Lines.{less_room, upward, few_places, in_slice, fits_line, in_lent, lent_once, line_done}
+use Rattle.blocks.proofs.Lines.{upward, few_places, in_slice, fits_line, in_lent, lent_once, line_done}
 use Rattle.blocks.proofs.line.fill_line.Goals as goal
-
-pub choose_for-choice-requires : goal.choose_for-choice-requires
-choose_for-choice-requires c =
-    let a = c.args in
-    let r = c.requires in record { n_in_bounds = (omega (arith, r.behind, r.before, r.inside), r.inside); all = r.members; count_le_max_statements = (r.few, (omega (arith, r.narrow), less_room _ _ _ _ (omega arith) r.room)) }
 
 pub put_members-requires : goal.put_members-requires
 put_members-requires c =
-    let ch = c.choose_for-choice.ensures in record { places_bound = omega (arith, few_places _ _ _ _ _ _ _ _ _ c.requires _ _ ch, c.requires.before); all = in_slice _ _ _ _ _ _ _ _ _ c.requires _ _ ch }
+    let ch = c.choose_for-choice.ensures in
+    record {
+      places_bound = omega (arith, few_places _ _ _ _ _ _ _ _ _ c.requires _ _ ch, c.requires.before);
+      all = in_slice _ _ _ _ _ _ _ _ _ c.requires _ _ ch;
+    }
 
 pub remove-left-requires : goal.remove-left-requires
 remove-left-requires c =

@@ -4,4 +4,4 @@ use Rattle.bulonkeri.proofs.Fits.{one_counts}
 use Rattle.bulonkeri.proofs.clean.packed.Goals as goal
 
 pub returns : goal.returns
-returns c = one_counts c.packed_list.ensures (list_inside _ _ _ _ _ _)
+returns c = one_counts _ c.packed_list.ensures (list_inside _ _ _ _ _ _)

@@ -4,4 +4,4 @@ use Rattle.bulonkeri.proofs.Fits.{one_counts}
 use Rattle.bulonkeri.proofs.distances.measure.Goals as goal
 
 pub returns : goal.returns
-returns c = one_counts c.distances.ensures (distances_inside _ _ _)
+returns c = one_counts _ c.distances.ensures (distances_inside _ _ _)

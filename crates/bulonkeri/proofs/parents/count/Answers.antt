@@ -4,4 +4,4 @@ use Rattle.bulonkeri.proofs.Fits.{one_counts}
 use Rattle.bulonkeri.proofs.parents.count.Goals as goal
 
 pub returns : goal.returns
-returns c = one_counts c.parents.ensures (parents_inside _ _ _)
+returns c = one_counts _ c.parents.ensures (parents_inside _ _ _)

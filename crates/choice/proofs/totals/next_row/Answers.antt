@@ -9,10 +9,14 @@ use Rattle.choice.proofs.totals.next_row.Goals as goal
 pub add_item-requires : goal.add_item-requires
 add_item-requires c =
     let a = c.args in
-    let b = c.smaller-below.result in
-    let e : a.row + b - (a.width + b) ≡ a.row - a.width = omega arith in record { cost_le_width = (omega arith, (omega arith, (omega arith, omega (arith, c.copy_above.auto.sums)))); width_bound = (omega arith, rw e (low_copied a.width a.row (a.row + b) _ _ (omega arith) (omega arith) c.copy_above.ensures c.requires.width_bound.1)) }
+    let b = c.min-below.result in
+    let e : a.row + b - (a.width + b) ≡ a.row - a.width = omega arith in
+    record {
+      cost_le_width = (omega arith, (omega arith, (omega arith, omega (arith, c.copy_above.auto.sums))));
+      width_bound = (omega arith, rw e (low_copied a.width a.row (a.row + b) _ _ (omega arith) (omega arith) c.copy_above.ensures c.requires.width_bound.1));
+    }
 
 pub returns : goal.returns
 returns c =
     let a = c.args in
-    row_written a.width a.row a.cost _ _ _ (omega arith) (rw c.smaller-below.ensures at c.copy_above.ensures) (rw c.smaller-below.ensures at c.add_item.ensures)
+    row_written a.width a.row a.cost _ _ _ (omega arith) (rw c.min-below.ensures at c.copy_above.ensures) (rw c.min-below.ensures at c.add_item.ensures)

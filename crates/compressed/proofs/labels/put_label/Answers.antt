@@ -4,5 +4,4 @@ use Rattle.compressed.proofs.LabelLaws.{lays_label}
 use Rattle.compressed.proofs.labels.put_label.Goals as goal
 
 pub returns : goal.returns
-returns c =
-    lays_label _ _ _ _ _ _ c.requires.near.1 c.label_start-start.ensures c.label_length-length.ensures c.put_word.ensures
+returns c = lays_label _ _ _ _ c.requires.near.1 c.label_of.ensures c.put_word.ensures

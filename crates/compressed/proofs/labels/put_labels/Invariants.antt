@@ -1,12 +1,8 @@
--- `put_labels` meets its contract. The labels of the first i statements of the list are laid.
--- The measure is how many are left.
-use Prim.Native.Nat.{◌-◌}
+-- `put_labels` meets its contract. The labels of the statements of the list before the turn's are laid.
+-- The list is a part of the working slice.
 use Rattle.layout.specs.Layouts.{layout_of}
 use Rattle.compressed.proofs.LabelLaws.{LabelsTo}
 use Rattle.compressed.proofs.labels.put_labels.Given as goal
 
-abbrev pub invariant-loop-i : goal.invariant-loop-i
-invariant-loop-i l = LabelsTo (layout_of l.layout) l.statements l.labels l.places l.work l.i l.initial.laid l.laid l.initial.out l.out
-
-abbrev pub decreases-loop-i : goal.decreases-loop-i
-decreases-loop-i l = l.places.listed - l.i
+abbrev pub invariant-loop-k : goal.invariant-loop-k
+invariant-loop-k l = LabelsTo (layout_of l.layout) l.statements l.labels l.k-items l.k-index l.initial.laid l.laid l.initial.out l.out

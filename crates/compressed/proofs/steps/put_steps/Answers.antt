@@ -1,5 +1,5 @@
 -- `put_steps` meets its contract. The letters of the first i steps are laid, whatever list of steps the words say.
--- Some list is said, so that the end is known to be near. The measure is how many steps are left.
+-- Some list is said, so that the end is known to be near.
 use native.Mathlib.Omega.{arith}
 use Rattle.layout.proofs.Wrote.{lays_kept}
 use Rattle.lettering.proofs.Lemmas.{step_ready}
@@ -12,13 +12,23 @@ loop-i-init c = steps_none _ _ _ _ _ _ (omega arith)
 pub put_step-laid-requires : goal.put_step-laid-requires
 put_step-laid-requires c =
     let pre = c.requires in
-    let r = pre.near_steps.1 in record { layout_value = pre.layout_value; near_steps = (omega (arith, pre.near_steps.0, (c.loop-i.invariant.laid r.thm r.labels r.ts r.says).near), step_ready _ _ _ _ _ _ r (omega (arith, c.loop-i-test.true))) }
+    let r = pre.near_steps.1 in record {
+      layout_value = pre.layout_value;
+      near_steps = (
+        omega (
+          arith,
+          pre.near_steps.0,
+          (c.loop-i.invariant.laid r.thm r.labels r.ts r.says).near,
+        ),
+        step_ready _ _ _ _ _ _ r (omega arith),
+      );
+    }
 
 pub loop-i-preserved : goal.loop-i-preserved
-loop-i-preserved c = steps_more _ _ _ (omega (arith, c.loop-i-test.true)) (omega arith) c.loop-i.invariant c.put_step-laid.ensures
+loop-i-preserved c = steps_more _ _ _ (omega arith) (omega arith) c.loop-i.invariant c.put_step-laid.ensures
 
 pub shape_of-out : goal.shape_of-out
 shape_of-out c = let r = c.requires.near_steps.1 in lays_kept (c.loop-i.invariant.laid r.thm r.labels r.ts r.says)
 
 pub returns : goal.returns
-returns c = steps_all _ _ _ (omega (arith, c.loop-i-test.false)) c.loop-i.invariant
+returns c = steps_all _ _ _ (omega arith) c.loop-i.invariant

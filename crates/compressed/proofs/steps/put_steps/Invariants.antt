@@ -1,12 +1,8 @@
 -- `put_steps` meets its contract. The letters of the first i steps are laid, whatever list of steps the words say.
--- Some list is said, so that the end is known to be near. The measure is how many steps are left.
-use Prim.Native.Nat.{◌-◌}
+-- Some list is said, so that the end is known to be near.
 use Rattle.layout.specs.Layouts.{layout_of}
 use Rattle.compressed.proofs.StepLaws.{StepsTo}
 use Rattle.compressed.proofs.steps.put_steps.Given as goal
 
 abbrev pub invariant-loop-i : goal.invariant-loop-i
 invariant-loop-i l = StepsTo (layout_of l.layout) l.places l.work l.i l.initial.laid l.laid l.initial.out l.out
-
-abbrev pub decreases-loop-i : goal.decreases-loop-i
-decreases-loop-i l = l.places.many - l.i

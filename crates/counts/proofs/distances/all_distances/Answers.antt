@@ -12,22 +12,10 @@ use Rattle.counts.proofs.distances.all_distances.Goals as goal
 
 -- there are as many distances as at the start, so few that an entry's number fits
 long : (c : At-loop-e) → length c.loop-e.out ≡ length c.args.out.now
-long c = omega (arith, simp length-set at c.loop-e.invariant.1.0, c.fill_short.auto.slice)
+long c = omega (arith, simp length-set at c.loop-e.invariant.1.0, c.fill.ensures.len)
 
 few : (c : At-loop-e) → length c.loop-e.out ≤ max_entries
 few c = omega (arith, long c, c.requires.entries_ok.few)
-
-pub loop-e-init : goal.loop-e-init
-loop-e-init c = (simp length-set (omega (arith, c.fill_short.auto.slice, c.requires.qed_in_bounds)), (refl, refl))
-
-pub offset_bounds-out-e : goal.offset_bounds-out-e
-offset_bounds-out-e c = omega (arith, few (goal.at.offset_bounds-out-e c).At-loop-e)
-
-pub overflow_cast-e : goal.overflow_cast-e
-overflow_cast-e c = omega (arith, few (goal.at.overflow_cast-e c).At-loop-e)
-
-pub hand_down-requires : goal.hand_down-requires
-hand_down-requires c = record { entries_ok = subst (λ (n : ℕ). EntriesOk c.args.entries.now c.args.children.now n) (sym (long (goal.at.hand_down-requires c).At-loop-e)) c.requires.entries_ok; e_in_bounds = omega arith }
 
 pub loop-e-preserved-then-distance-lt-UNREACHED : goal.loop-e-preserved-then-distance-lt-UNREACHED
 loop-e-preserved-then-distance-lt-UNREACHED c =
@@ -50,11 +38,8 @@ loop-e-preserved c =
       ),
     )
 
-pub shape_of-out : goal.shape_of-out
-shape_of-out c = long (goal.at.shape_of-out c).At-loop-e
-
 pub returns : goal.returns
 returns c =
     let p = c.loop-e in
-    let fill = c.fill_short in
-    sym (descend_done _ p.e p.out c.loop-e-test.false) ∙ p.invariant.1.1 ∙ distances_start _ _ c.requires.qed_in_bounds _ _ _ (omega arith) fill.ensures
+    let fill = c.fill in
+    sym (descend_done _ p.e p.out c.loop-e-test.false) ∙ p.invariant.1.1 ∙ distances_start _ _ c.requires.qed_in_bounds _ _ _ (omega arith) (fill.ensures.after (λ y e. e))

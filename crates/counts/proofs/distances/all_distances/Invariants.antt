@@ -9,6 +9,3 @@ use Rattle.counts.proofs.distances.all_distances.Given as goal
 
 abbrev pub invariant-loop-e : goal.invariant-loop-e
 invariant-loop-e l = (l.e ≤ length l.out) × ((length l.out ≡ length l.initial.out) × (descend (graph_in l.entries l.children) l.e l.out ≡ descend (graph_in l.entries l.children) l.initial.e l.initial.out))
-
-abbrev pub decreases-loop-e : goal.decreases-loop-e
-decreases-loop-e l = l.e

@@ -9,9 +9,6 @@ use Rattle.counts.proofs.sizes.count_normal.Goals as goal
 pub loop-e-init : goal.loop-e-init
 loop-e-init c = (omega arith, (refl, sizes_none _ _))
 
-pub overflow_cast-e : goal.overflow_cast-e
-overflow_cast-e c = omega (arith, c.requires.entries_ok.few)
-
 pub size_of-size-requires : goal.size_of-size-requires
 size_of-size-requires c =
     let p = c.loop-e in
@@ -23,9 +20,3 @@ loop-e-preserved c =
       omega arith,
       (length-set p.sizes p.e c.size_of-size.result ∙ p.invariant.1.0, sizes_next _ p.e _ _ _ (omega arith) p.invariant.1.1 c.size_of-size.ensures),
     )
-
-pub shape_of-sizes : goal.shape_of-sizes
-shape_of-sizes c = c.loop-e.invariant.1.0
-
-pub returns : goal.returns
-returns c = sizes_done _ _ c.loop-e.e _ _ (omega arith) c.loop-e.invariant.1.1

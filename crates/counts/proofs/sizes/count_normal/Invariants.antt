@@ -2,7 +2,7 @@
 -- Children lie below their parents, so their counts are known when the parent's turn comes. Assumes nothing.
 use mathlib.Core.Path.{◌≡◌}
 use mathlib.Core.List.{◌++◌}
-use Prim.Native.Nat.{◌-◌, ◌≤◌}
+use Prim.Native.Nat.{◌≤◌}
 use lib.ListN.{length, drop}
 use Rattle.defs.specs.Graph.{graph_in}
 use Rattle.counts.specs.Sizes.{capped_sizes}
@@ -10,6 +10,3 @@ use Rattle.counts.proofs.sizes.count_normal.Given as goal
 
 abbrev pub invariant-loop-e : goal.invariant-loop-e
 invariant-loop-e l = (l.e ≤ l.n) × ((length l.sizes ≡ length l.initial.sizes) × (l.sizes ≡ capped_sizes (graph_in l.entries l.children) l.e ++ drop l.e l.initial.sizes))
-
-abbrev pub decreases-loop-e : goal.decreases-loop-e
-decreases-loop-e l = l.n - l.e

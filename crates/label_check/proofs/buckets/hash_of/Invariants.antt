@@ -1,13 +1,9 @@
 -- `hash_of` is `hash_of`. Invariant: the hash is that of the bytes passed, and has 32 bits, so that no product leaves a word.
 -- Assumes nothing.
-use Prim.Native.Nat.{◌-◌, ◌≤◌, ◌<◌}
+use Prim.Native.Nat.{◌<◌}
 use mathlib.Core.Path.{◌≡◌}
-use lib.ListN.{length}
 use Rattle.label_check.specs.Buckets.{hash_to}
 use Rattle.label_check.proofs.buckets.hash_of.Given as goal
 
-abbrev pub invariant-loop-i : goal.invariant-loop-i
-invariant-loop-i l = (l.i ≤ length l.label) × (l.hash < 4294967296) × (l.hash ≡ hash_to l.label l.i)
-
-abbrev pub decreases-loop-i : goal.decreases-loop-i
-decreases-loop-i l = length l.label - l.i
+abbrev pub invariant-loop-byte : goal.invariant-loop-byte
+invariant-loop-byte l = (l.hash < 4294967296) × (l.hash ≡ hash_to l.label l.byte-index)

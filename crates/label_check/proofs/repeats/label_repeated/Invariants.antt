@@ -1,6 +1,6 @@
 -- `label_repeated` searches pairs. Invariants: the label of k is none of those below j, no statement below k has an earlier label, and the
--- labels below k fell into their buckets. A hit leaves both loops and decides; what is not compared is unlike. Assumes nothing.
-use Prim.Native.Nat.{ℕ, ◌≤◌, ◌<◌, ◌-◌}
+-- labels below k fell into their buckets. A hit decides; what is not compared is unlike. Assumes nothing.
+use Prim.Native.Nat.{ℕ, ◌<◌}
 use mathlib.Core.Bool.{false}
 use mathlib.Core.Path.{◌≡◌}
 use Rattle.laws.specs.Tools.{same}
@@ -10,15 +10,7 @@ use Rattle.label_check.proofs.BucketLaws.{Fallen}
 use Rattle.label_check.proofs.repeats.label_repeated.Given as goal
 
 abbrev pub invariant-loop-j : goal.invariant-loop-j
-invariant-loop-j l =
-    (l.j ≤ l.k) × (l.found ≡ false) × ((i : ℕ) → i < l.j → same (label_in l.statements l.labels i) (label_in l.statements l.labels l.k) ≡ false)
-
-abbrev pub decreases-loop-j : goal.decreases-loop-j
-decreases-loop-j l = l.k - l.j
+invariant-loop-j l = (l.found ≡ false) × ((i : ℕ) → i < l.j → same (label_in l.statements l.labels i) (label_in l.statements l.labels l.k) ≡ false)
 
 abbrev pub invariant-search : goal.invariant-search
-invariant-search l =
-    (l.k ≤ l.count) × (l.found ≡ false) × ((i : ℕ) → i < l.k → label_again l.statements l.labels i ≡ false) × Fallen (label_in l.statements l.labels) l.marks l.k
-
-abbrev pub decreases-search : goal.decreases-search
-decreases-search l = l.count - l.k
+invariant-search l = (l.found ≡ false) × ((i : ℕ) → i < l.k → label_again l.statements l.labels i ≡ false) × Fallen (label_in l.statements l.labels) l.marks l.k

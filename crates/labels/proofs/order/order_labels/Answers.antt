@@ -19,8 +19,8 @@ use Rattle.labels.proofs.order.order_labels.Goals as goal
 ss_is : (c : After-count_floatings-floatings) → c.statement_section-statements.result.now ≡ statement_words c.args.words.now
 ss_is c = c.statement_section-statements.ensures
 
-s_is : (c : After-count_floatings-floatings) → c.wide-s.result ≡ statements c.args.words.now
-s_is c = c.wide-s.ensures ∙ c.read_header.ensures.statements_is
+s_is : (c : After-count_floatings-floatings) → c.read_header-s.result.statements ≡ statements c.args.words.now
+s_is c = c.read_header-s.ensures.statements_is
 
 floating_is : (c : After-count_floatings-floatings) → c.count_floatings-floatings.result ≡ floatings c.args.words.now
 floating_is c = floatings_are _ _ _ _ (ss_is c) c.theorem_list-theorem.ensures c.count_floatings-floatings.ensures
@@ -29,22 +29,25 @@ base_is : (c : After-count_floatings-floatings) → length c.theorem_list-theore
 base_is c = ap length c.theorem_list-theorem.ensures
 
 -- the arrays end inside the slice
-bound : (c : After-count_floatings-floatings) → (c.args.from + 8 * c.wide-s.result) ≤ length c.args.work.now
+bound : (c : After-count_floatings-floatings) → (c.args.from + 8 * c.read_header-s.result.statements) ≤ length c.args.work.now
 bound c = room _ _ _ _ _ _ c.requires _ _ _ _ (ss_is c) (s_is c) (floating_is c) (base_is c)
 
 -- no more statements are listed than there are
-little : (c : After-count_floatings-floatings) → c.count_floatings-floatings.result + c.args.many ≤ c.wide-s.result
+little : (c : After-count_floatings-floatings) → c.count_floatings-floatings.result + c.args.many ≤ c.read_header-s.result.statements
 little c = few _ _ _ _ _ _ c.requires _ _ _ _ (ss_is c) (s_is c) (floating_is c) (base_is c)
 
 -- the slice with the order in it is as long as it was
-ordered_long : (c : After-label_order) → let costs = c.args.from + 5 * c.wide-s.result in let end = costs + c.args.many + 2 * c.args.many in length (put_mid costs (end - costs) c.weigh.new.work c.label_order.new.work) ≡ length c.args.work.now
+ordered_long : (c : After-label_order) →
+    let costs = c.args.from + 5 * c.read_header-s.result.statements in
+    let end = costs + c.args.many + 2 * c.args.many in
+    length (put_mid costs (end - costs) c.weigh.new.work c.label_order.new.work) ≡ length c.args.work.now
 ordered_long c =
-    let costs = c.args.from + 5 * c.wide-s.result in
+    let costs = c.args.from + 5 * c.read_header-s.result.statements in
     let end = costs + c.args.many + 2 * c.args.many in
     same_len_mid costs (end - costs) c.weigh.new.work c.label_order.new.work c.label_order.auto.work ∙ c.weigh.auto.work
 
-pub read_header-requires : goal.read_header-requires
-read_header-requires c = (header _ (good _ _ c.requires.ok).ok1).ten
+pub read_header-s-requires : goal.read_header-s-requires
+read_header-s-requires c = (header _ (good _ _ c.requires.ok).ok1).ten
 
 pub statement_section-statements-requires : goal.statement_section-statements-requires
 statement_section-statements-requires c = header _ (good _ _ c.requires.ok).ok1
@@ -54,18 +57,6 @@ theorem_list-theorem-requires c = theorem_ok _ _ c.requires.ok
 
 pub count_floatings-floatings-requires : goal.count_floatings-floatings-requires
 count_floatings-floatings-requires c = rw (c.statement_section-statements.ensures, c.theorem_list-theorem.ensures) (list_statements _ (theorem_ok _ _ c.requires.ok))
-
-pub overflow_mul-list : goal.overflow_mul-list
-overflow_mul-list c = omega (arith, bound c)
-
-pub overflow_add-list : goal.overflow_add-list
-overflow_add-list c = omega (arith, bound c)
-
-pub overflow_mul-costs : goal.overflow_mul-costs
-overflow_mul-costs c = omega (arith, bound c)
-
-pub overflow_add-costs : goal.overflow_add-costs
-overflow_add-costs c = omega (arith, bound c)
 
 pub overflow_add-order : goal.overflow_add-order
 overflow_add-order c = omega (arith, bound c, little c)
@@ -94,7 +85,8 @@ label_order-requires c =
 pub name_statements-requires : goal.name_statements-requires
 name_statements-requires c =
     let at = (goal.at.name_statements-requires c).After-count_floatings-floatings in
-    names_ready _ _ _ _ _ _ c.requires _ _ _ _ (ss_is at) (s_is at) (floating_is at) (base_is at) _ c.weigh.ensures c.weigh.auto.work _ c.label_order.ensures c.label_order.auto.work (ordered_long (goal.at.name_statements-requires c).After-label_order)
+    names_ready _ _ _ _ _ _ c.requires _ _ _ _ (ss_is at) (s_is at) (floating_is at) (base_is at) _ c.weigh.ensures c.weigh.auto.work
+    _ c.label_order.ensures c.label_order.auto.work (ordered_long (goal.at.name_statements-requires c).After-label_order)
 
 pub overflow_cast-theorem : goal.overflow_cast-theorem
 overflow_cast-theorem c = omega (arith, base_is (goal.at.overflow_cast-theorem c).After-count_floatings-floatings, list_short _ (theorem_ok _ _ c.requires.ok))
@@ -102,9 +94,11 @@ overflow_cast-theorem c = omega (arith, base_is (goal.at.overflow_cast-theorem c
 pub number_labels-requires : goal.number_labels-requires
 number_labels-requires c =
     let at = (goal.at.number_labels-requires c).After-count_floatings-floatings in
-    labels_ready _ _ _ _ _ _ c.requires _ _ _ _ (ss_is at) (s_is at) (floating_is at) (base_is at) _ c.weigh.ensures c.weigh.auto.work _ c.label_order.ensures c.label_order.auto.work _ c.name_statements.ensures (c.name_statements.auto.work ∙ ordered_long (goal.at.number_labels-requires c).After-label_order)
+    labels_ready _ _ _ _ _ _ c.requires _ _ _ _ (ss_is at) (s_is at) (floating_is at) (base_is at) _ c.weigh.ensures c.weigh.auto.work
+    _ c.label_order.ensures c.label_order.auto.work _ c.name_statements.ensures (c.name_statements.auto.work ∙ ordered_long (goal.at.number_labels-requires c).After-label_order)
 
 pub returns : goal.returns
 returns c =
     let at = (goal.at.returns c).After-count_floatings-floatings in
-    list_ordered _ _ _ _ _ _ c.requires _ _ _ _ (ss_is at) (s_is at) (floating_is at) (base_is at) _ c.weigh.ensures c.weigh.auto.work _ c.label_order.ensures c.label_order.auto.work _ c.name_statements.ensures (c.name_statements.auto.work ∙ ordered_long (goal.at.returns c).After-label_order) _ c.number_labels.ensures
+    list_ordered _ _ _ _ _ _ c.requires _ _ _ _ (ss_is at) (s_is at) (floating_is at) (base_is at) _ c.weigh.ensures c.weigh.auto.work
+    _ c.label_order.ensures c.label_order.auto.work _ c.name_statements.ensures (c.name_statements.auto.work ∙ ordered_long (goal.at.returns c).After-label_order) _ c.number_labels.ensures

@@ -34,9 +34,6 @@ loop-q-preserved c =
     let p = c.loop-q in
     (length-set p.out _ _ ∙ p.invariant.0, put_more p.at p.invariant.1 c.loop-q-test.true (overflow_sub-at-in-loop-q c) (rw length-set c.requires.1))
 
-pub shape_of-out : goal.shape_of-out
-shape_of-out c = kept c.before
-
 pub returns : goal.returns
 returns c =
     let z : c.loop-q.q ≡ 0 = omega arith in

@@ -1,12 +1,7 @@
 -- `number_theorem` meets its contract. The invariant: the first i statements of the theorem's list have their places plus 1.
 -- No statement occurs twice in it, so none loses its number. Assumes nothing.
-use lib.ListN.{length}
-use Prim.Native.Nat.{◌-◌}
 use Rattle.listing.proofs.NumberLaws.{NumberedTo}
 use Rattle.listing.proofs.numbers.number_theorem.Given as goal
 
 abbrev pub invariant-loop-i : goal.invariant-loop-i
 invariant-loop-i l = NumberedTo 0 l.s l.from l.list l.i l.initial.work l.work
-
-abbrev pub decreases-loop-i : goal.decreases-loop-i
-decreases-loop-i l = length l.list - l.i

@@ -14,9 +14,6 @@ overflow_add-work c = omega (arith, uses_fit _ _ _ _ _ c.requires)
 pub returns-then-uses-ne0 : goal.returns-then-uses-ne0
 returns-then-uses-ne0 c = more_known _ _ _ _ _ c.requires.room c.requires.inside c.if-work-from-ne0.false (λ e. omega (arith, c.if-uses-ne0.true))
 
-pub overflow_cast-work : goal.overflow_cast-work
-overflow_cast-work c = omega (arith, c.requires.inside, c.requires.small)
-
 pub overflow_add-work-3 : goal.overflow_add-work-3
 overflow_add-work-3 c = omega (arith, new_fits _ _ _ _ _ c.requires c.if-work-from-ne0.false (omega (arith, c.if-uses-ne0.false)))
 
@@ -30,4 +27,6 @@ pub overflow_add-result : goal.overflow_add-result
 overflow_add-result c = omega (arith, new_fits _ _ _ _ _ c.requires c.if-work-from-ne0.false (omega (arith, c.if-uses-ne0.false)))
 
 pub returns : goal.returns
-returns c = more_new _ _ _ _ _ c.requires.room c.requires.inside (new_fits _ _ _ _ _ c.requires c.if-work-from-ne0.false (omega (arith, c.if-uses-ne0.false))) c.if-work-from-ne0.false (omega (arith, c.if-uses-ne0.false))
+returns c =
+    more_new _ _ _ _ _ c.requires.room c.requires.inside (new_fits _ _ _ _ _ c.requires c.if-work-from-ne0.false (omega (arith, c.if-uses-ne0.false)))
+    c.if-work-from-ne0.false (omega (arith, c.if-uses-ne0.false))

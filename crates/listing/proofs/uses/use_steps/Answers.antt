@@ -17,8 +17,5 @@ use_step-listed-requires c =
 pub loop-i-preserved : goal.loop-i-preserved
 loop-i-preserved c = turn _ _ _ _ _ _ _ _ c.loop-i.invariant c.loop-i-test.true c.requires.apart _ _ c.use_step-listed.auto.work c.use_step-listed.ensures
 
-pub shape_of-work : goal.shape_of-work
-shape_of-work c = c.loop-i.invariant.same_length
-
 pub returns : goal.returns
 returns c = all_done _ _ _ _ _ _ _ _ (omega arith) c.loop-i.invariant

@@ -9,10 +9,10 @@ use Rattle.lists.proofs.ListLaws.{Listing}
 use Rattle.lists.proofs.normal.write_normal.Given as goal
 
 -- all the steps are those to come where the loop begins
-abbrev pub invariant-loop-statement : goal.invariant-loop-statement
-invariant-loop-statement l =
+abbrev pub invariant-loop-taken : goal.invariant-loop-taken
+invariant-loop-taken l =
     Listing l.entries l.children l.explicit (left l.entries l.children l.explicit l.initial.stack l.initial.depth) l.stack l.depth l.at l.initial.out l.out
     × ((length l.stack ≡ length l.initial.stack) × (length l.out ≡ length l.initial.out))
 
-abbrev pub decreases-loop-statement : goal.decreases-loop-statement
-decreases-loop-statement l = length (flat (left l.entries l.children l.explicit l.initial.stack l.initial.depth)) - l.at
+abbrev pub decreases-loop-taken : goal.decreases-loop-taken
+decreases-loop-taken l = length (flat (left l.entries l.children l.explicit l.initial.stack l.initial.depth)) - l.at

@@ -1,13 +1,10 @@
 -- `put_before` meets its contract. The last digits of v stand from `at` on, and the digits of q are still to come.
 -- The measure is q.
-use mathlib.Core.Path.{refl, ◌∙◌}
+use mathlib.Core.Path.{◌∙◌}
 use native.Mathlib.Omega.{arith}
 use lib.ListN.{length-set}
-use Rattle.names.proofs.Turns.{begin, room, put_more, put_all}
+use Rattle.names.proofs.Turns.{room, put_more, put_all}
 use Rattle.names.proofs.decimal.put_before.Goals as goal
-
-pub loop-q-init : goal.loop-q-init
-loop-q-init c = (refl, begin c.args.v c.args.end c.args.out.now)
 
 pub overflow_sub-at : goal.overflow_sub-at
 overflow_sub-at c = room c.loop-q.invariant.1 c.requires.0
@@ -25,9 +22,6 @@ overflow_sub-at-2 c = room c.loop-q.invariant.1 c.requires.0
 
 pub bounds-out-at-2 : goal.bounds-out-at-2
 bounds-out-at-2 c = omega (arith, c.loop-q.invariant.1.stand.ends, overflow_sub-at-2 c)
-
-pub shape_of-out : goal.shape_of-out
-shape_of-out c = length-set c.loop-q.out _ _ ∙ c.loop-q.invariant.0
 
 pub returns : goal.returns
 returns c = put_all c.loop-q.invariant.1 (omega arith) (overflow_sub-at-2 c) c.requires.1

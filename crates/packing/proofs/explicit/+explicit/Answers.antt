@@ -1,6 +1,6 @@
 -- `explicit_children` and `explicit_grandchildren` meet their contract, which is the same: whatever walk the words held, they hold it after the children.
 -- The measure is the entry's number, which is less at each child. What their loops keep, and that a turn keeps it, is said once, in TurnLaws.
-use mathlib.Core.Path.{refl, sym, ap, ap₂, subst, ◌∙◌}
+use mathlib.Core.Path.{sym, ap, ap₂, subst, ◌∙◌}
 use mathlib.Core.Bool.{true}
 use mathlib.Core.List.{List}
 use Prim.Native.Nat.{ℕ, ◌<◌}
@@ -21,7 +21,7 @@ owner ready children = record { ready = ready; children = children }
 -- ---- `explicit_children`
 
 pub explicit_children-loop-i-init : goal.explicit_children-loop-i-init
-explicit_children-loop-i-init t c = kept_first _ _ _ _ _ _ (omega (arith, c.children_of-own.ensures.until_is))
+explicit_children-loop-i-init t c = kept_first _ _ _ _ _ _ (omega (arith, c.children_of-own.ensures.until_is)) _ (omega arith)
 
 pub explicit_children-statement_in-statement-requires : goal.explicit_children-statement_in-statement-requires
 explicit_children-statement_in-statement-requires t c = child_entry _ _ _ _ _ _ _ _ _ c.loop-i.invariant c.loop-i-test.true _ (owner c.requires.ready c.children_of-own.ensures) _ c.child_in-c.ensures c.requires.header_ok
@@ -45,16 +45,16 @@ pub explicit_children-loop-i-preserved : goal.explicit_children-loop-i-preserved
 explicit_children-loop-i-preserved t c = elim c.if-lists_children.branch [
   | explicit_children-then-lists_children w ↦
       turn_new _ _ _ _ _ _ _ _ _ c.loop-i.invariant c.loop-i-test.true _ (owner c.requires.ready c.children_of-own.ensures) _ c.child_in-c.ensures (ltb-true _ _ (sym c.lists_children.ensures ∙ w.if-lists_children.true)) _ w.explicit_grandchildren-end.auto.work w.explicit_grandchildren-end.ensures
-      _ (ap length w.work-is ∙ w.finish-end.auto.work) _ c.statement_in-statement.ensures (ap₂ held w.work-is w.end-is ∙ w.finish-end.ensures) _ refl
+      _ (ap length w.work-is ∙ w.finish-end.auto.work) _ c.statement_in-statement.ensures (ap₂ held w.work-is w.end-is ∙ w.finish-end.ensures) _ (omega (arith, c.loop-i.invariant.low))
   | explicit_children-else-lists_children w ↦
       turn_single _ _ _ _ _ _ _ _ _ c.loop-i.invariant c.loop-i-test.true _ (owner c.requires.ready c.children_of-own.ensures) _ c.child_in-c.ensures (ltb-false _ _ (sym c.lists_children.ensures ∙ w.if-lists_children.false))
-      _ (ap length w.work-is ∙ w.list_single-end.auto.work) _ c.statement_in-statement.ensures (ap₂ held w.work-is w.end-is ∙ w.list_single-end.ensures) _ refl
+      _ (ap length w.work-is ∙ w.list_single-end.auto.work) _ c.statement_in-statement.ensures (ap₂ held w.work-is w.end-is ∙ w.list_single-end.ensures) _ (omega (arith, c.loop-i.invariant.low))
 ]
 
 -- ---- `explicit_grandchildren`
 
 pub explicit_grandchildren-loop-i-init : goal.explicit_grandchildren-loop-i-init
-explicit_grandchildren-loop-i-init t c = kept_first _ _ _ _ _ _ (omega (arith, c.children_of-own.ensures.until_is))
+explicit_grandchildren-loop-i-init t c = kept_first _ _ _ _ _ _ (omega (arith, c.children_of-own.ensures.until_is)) _ (omega arith)
 
 pub explicit_grandchildren-statement_in-statement-requires : goal.explicit_grandchildren-statement_in-statement-requires
 explicit_grandchildren-statement_in-statement-requires t c = child_entry _ _ _ _ _ _ _ _ _ c.loop-i.invariant c.loop-i-test.true _ (owner c.requires.ready c.children_of-own.ensures) _ c.child_in-c.ensures c.requires.header_ok
@@ -78,8 +78,8 @@ pub explicit_grandchildren-loop-i-preserved : goal.explicit_grandchildren-loop-i
 explicit_grandchildren-loop-i-preserved t c = elim c.if-lists_children.branch [
   | explicit_grandchildren-then-lists_children w ↦
       turn_new _ _ _ _ _ _ _ _ _ c.loop-i.invariant c.loop-i-test.true _ (owner c.requires.ready c.children_of-own.ensures) _ c.child_in-c.ensures (ltb-true _ _ (sym c.lists_children.ensures ∙ w.if-lists_children.true)) _ w.explicit_children-end.auto.work w.explicit_children-end.ensures
-      _ (ap length w.work-is ∙ w.finish-end.auto.work) _ c.statement_in-statement.ensures (ap₂ held w.work-is w.end-is ∙ w.finish-end.ensures) _ refl
+      _ (ap length w.work-is ∙ w.finish-end.auto.work) _ c.statement_in-statement.ensures (ap₂ held w.work-is w.end-is ∙ w.finish-end.ensures) _ (omega (arith, c.loop-i.invariant.low))
   | explicit_grandchildren-else-lists_children w ↦
       turn_single _ _ _ _ _ _ _ _ _ c.loop-i.invariant c.loop-i-test.true _ (owner c.requires.ready c.children_of-own.ensures) _ c.child_in-c.ensures (ltb-false _ _ (sym c.lists_children.ensures ∙ w.if-lists_children.false))
-      _ (ap length w.work-is ∙ w.list_single-end.auto.work) _ c.statement_in-statement.ensures (ap₂ held w.work-is w.end-is ∙ w.list_single-end.ensures) _ refl
+      _ (ap length w.work-is ∙ w.list_single-end.auto.work) _ c.statement_in-statement.ensures (ap₂ held w.work-is w.end-is ∙ w.list_single-end.ensures) _ (omega (arith, c.loop-i.invariant.low))
 ]

@@ -13,13 +13,7 @@ abbrev pub decreases-explicit_grandchildren : goal.decreases-explicit_grandchild
 decreases-explicit_grandchildren l = l.e.0
 
 abbrev pub invariant-explicit_children-loop-i : goal.invariant-explicit_children-loop-i
-invariant-explicit_children-loop-i l = Kept l.words.now true (held l.initial.work l.start) l.own.first l.own.until l.own.parent (held l.work l.end) l.i l.index
-
-abbrev pub decreases-explicit_children-loop-i : goal.decreases-explicit_children-loop-i
-decreases-explicit_children-loop-i l = l.own.until - l.i
+invariant-explicit_children-loop-i l = Kept l.words.now true (held l.initial.work l.start) l.own.first l.own.until l.own.parent (held l.work l.end) l.i (l.i - l.own.first)
 
 abbrev pub invariant-explicit_grandchildren-loop-i : goal.invariant-explicit_grandchildren-loop-i
-invariant-explicit_grandchildren-loop-i l = Kept l.words.now true (held l.initial.work l.start) l.own.first l.own.until l.own.parent (held l.work l.end) l.i l.index
-
-abbrev pub decreases-explicit_grandchildren-loop-i : goal.decreases-explicit_grandchildren-loop-i
-decreases-explicit_grandchildren-loop-i l = l.own.until - l.i
+invariant-explicit_grandchildren-loop-i l = Kept l.words.now true (held l.initial.work l.start) l.own.first l.own.until l.own.parent (held l.work l.end) l.i (l.i - l.own.first)

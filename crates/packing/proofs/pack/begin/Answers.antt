@@ -8,11 +8,6 @@ use Rattle.counts.specs.Parents.{times_each}
 use Rattle.packing.proofs.BeginLaws.{counted}
 use Rattle.packing.proofs.pack.begin.Goals as goal
 
-pub count_parents-requires : goal.count_parents-requires
-count_parents-requires c =
-    let long : length (mid_of 1 (c.args.start - 1) c.args.work.now) ≡ c.args.start - 1 = mid_len 1 c.args.start c.args.work.now c.requires.fits in
-    rw long c.requires.within
-
 pub returns : goal.returns
 returns c =
     let long : length (mid_of 1 (c.args.start - 1) c.args.work.now) ≡ c.args.start - 1 = mid_len 1 c.args.start c.args.work.now c.requires.fits in

@@ -21,7 +21,7 @@ owner ready children = record { ready = ready; children = record { first_is = ch
 -- ---- `plain_children`
 
 pub plain_children-loop-i-init : goal.plain_children-loop-i-init
-plain_children-loop-i-init t c = kept_first _ _ _ _ _ _ (omega (arith, c.children_of-own.ensures.until_is))
+plain_children-loop-i-init t c = kept_first _ _ _ _ _ _ (omega (arith, c.children_of-own.ensures.until_is)) _ refl
 
 pub plain_children-statement_in-statement-requires : goal.plain_children-statement_in-statement-requires
 plain_children-statement_in-statement-requires t c = child_entry _ _ _ _ _ _ _ _ _ c.loop-i.invariant c.loop-i-test.true _ (owner c.requires.ready c.children_of-own.ensures) _ c.child_in-c.ensures c.requires.header_ok
@@ -54,7 +54,7 @@ plain_children-loop-i-preserved t c = elim c.if-lists_children.branch [
 -- ---- `plain_grandchildren`
 
 pub plain_grandchildren-loop-i-init : goal.plain_grandchildren-loop-i-init
-plain_grandchildren-loop-i-init t c = kept_first _ _ _ _ _ _ (omega (arith, c.children_of-own.ensures.until_is))
+plain_grandchildren-loop-i-init t c = kept_first _ _ _ _ _ _ (omega (arith, c.children_of-own.ensures.until_is)) _ refl
 
 pub plain_grandchildren-statement_in-statement-requires : goal.plain_grandchildren-statement_in-statement-requires
 plain_grandchildren-statement_in-statement-requires t c = child_entry _ _ _ _ _ _ _ _ _ c.loop-i.invariant c.loop-i-test.true _ (owner c.requires.ready c.children_of-own.ensures) _ c.child_in-c.ensures c.requires.header_ok

@@ -6,26 +6,27 @@ use Rattle.replay.proofs.answer.settle.Goals as goal
 
 -- what is built stands in the outputs
 pub offset_bounds-entries-built : goal.offset_bounds-entries-built
-offset_bounds-entries-built c = let ended = ended_store _ _ _ _ c.in-Going.is c.requires in omega arith
+offset_bounds-entries-built c = let ended = ended_store _ _ _ _ c.in-Ok.is c.requires in omega arith
 
 pub slice_bounds-fill-start : goal.slice_bounds-fill-start
-slice_bounds-fill-start c = (ended_store _ _ _ _ c.in-Going.is c.requires).built_room
+slice_bounds-fill-start c = (ended_store _ _ _ _ c.in-Ok.is c.requires).built_room
 
 pub slice_bounds-fill-count : goal.slice_bounds-fill-count
-slice_bounds-fill-count c = (ended_store _ _ _ _ c.in-Going.is c.requires).built_room
+slice_bounds-fill-count c = (ended_store _ _ _ _ c.in-Ok.is c.requires).built_room
 
 pub offset_bounds-children-kids : goal.offset_bounds-children-kids
-offset_bounds-children-kids c = let ended = ended_store _ _ _ _ c.in-Going.is c.requires in omega arith
+offset_bounds-children-kids c = let ended = ended_store _ _ _ _ c.in-Ok.is c.requires in omega arith
 
-pub slice_bounds-fill-start-in-Going : goal.slice_bounds-fill-start-in-Going
-slice_bounds-fill-start-in-Going c = (ended_store _ _ _ _ c.in-Going.is c.requires).kids_room
+pub slice_bounds-fill-start-in-Ok : goal.slice_bounds-fill-start-in-Ok
+slice_bounds-fill-start-in-Ok c = (ended_store _ _ _ _ c.in-Ok.is c.requires).kids_room
 
-pub slice_bounds-fill-count-in-Going : goal.slice_bounds-fill-count-in-Going
-slice_bounds-fill-count-in-Going c = (ended_store _ _ _ _ c.in-Going.is c.requires).kids_room
+pub slice_bounds-fill-count-in-Ok : goal.slice_bounds-fill-count-in-Ok
+slice_bounds-fill-count-in-Ok c = (ended_store _ _ _ _ c.in-Ok.is c.requires).kids_room
 
-pub returns-in-Refused : goal.returns-in-Refused
-returns-in-Refused c = λ half stack work. settle_refused _ _ c.args.turn half stack work _ _ _ c.in-Refused.is c.fill.ensures c.fill-in-Refused.ensures
+pub returns-in-Err : goal.returns-in-Err
+returns-in-Err c = λ half stack work.
+    settle_refused _ _ c.args.turn half stack work _ _ _ c.in-Err.is (c.fill.ensures.after (λ y e. e)) (c.fill-in-Err.ensures.after (λ y e. e))
 
-pub returns-in-Going : goal.returns-in-Going
-returns-in-Going c = λ half stack work.
-    settle_done _ _ c.args.turn half stack work _ _ _ c.in-Going.is (ended_store _ _ _ _ c.in-Going.is c.requires) c.fill-in-Going.ensures c.fill-in-Going-2.ensures
+pub returns-in-Ok : goal.returns-in-Ok
+returns-in-Ok c = λ half stack work.
+    settle_done _ _ c.args.turn half stack work _ _ _ c.in-Ok.is (ended_store _ _ _ _ c.in-Ok.is c.requires) (c.fill-in-Ok.ensures.after (λ y e. e)) (c.fill-in-Ok-2.ensures.after (λ y e. e))

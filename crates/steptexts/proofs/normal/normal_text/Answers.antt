@@ -8,7 +8,7 @@ use Rattle.walk.specs.Normal.{left, Stepped, came_step, came_end}
 use Rattle.steptexts.proofs.Lent.{Entered}
 use Rattle.steptexts.proofs.Laying.{laid_kept}
 use Rattle.steptexts.proofs.NormalLaws.{start, may_walk, Here, near, word_ready, word_in, turn, fewer, printed}
-use Rattle.steptexts.proofs.normal.normal_text.Goals.{After-child_section-children, At-loop-statement, In-Step}
+use Rattle.steptexts.proofs.normal.normal_text.Goals.{After-child_section-children, At-loop-taken, In-Some}
 use Rattle.steptexts.proofs.normal.normal_text.Goals as goal
 
 -- ---- where the sections are cut, and the head of the loop
@@ -22,7 +22,7 @@ entered s =
     }
 
 -- what stands when the loop begins
-here : (p : At-loop-statement) → Here p.args.words.now p.args.labels.now (length p.args.stack.now) p.statement_section-statements.result.now
+here : (p : At-loop-taken) → Here p.args.words.now p.args.labels.now (length p.args.stack.now) p.statement_section-statements.result.now
     p.hyp_section-hyps.result.now p.read_header-header.result.theorem.0 p.entry_section-entries.result.now p.child_section-children.result.now
     p.read_header-header.result.qed.0 p.begin.new.stack
 here p =
@@ -42,10 +42,10 @@ here p =
     }
 
 -- ---- a turn
-stepped : (c : In-Step) → Stepped c.entry_section-entries.result.now c.child_section-children.result.now c.args.explicit
-    (left c.entry_section-entries.result.now c.child_section-children.result.now c.args.explicit c.loop-statement.stack c.loop-statement.depth)
-    c.next-taken.new.stack c.in-Step.statement.0 c.in-Step.hyp c.in-Step.below
-stepped c = came_step _ _ _ _ _ _ _ _ _ c.next-taken.ensures c.in-Step.is
+stepped : (c : In-Some) → Stepped c.entry_section-entries.result.now c.child_section-children.result.now c.args.explicit
+    (left c.entry_section-entries.result.now c.child_section-children.result.now c.args.explicit c.loop-taken.stack c.loop-taken.depth)
+    c.next.new.stack c.in-Some.taken.statement.0 c.in-Some.taken.hyp c.in-Some.taken.depth
+stepped c = came_step _ _ _ _ _ _ _ c.next.ensures c.in-Some.is
 
 -- ---- the goals
 pub read_header-header-requires : goal.read_header-header-requires
@@ -71,48 +71,54 @@ begin-requires c =
 pub begin-line-requires : goal.begin-line-requires
 begin-line-requires c = c.requires.layout_value
 
-pub loop-statement-init : goal.loop-statement-init
-loop-statement-init c = (start _ _ _ _ c.begin.ensures.stacked, refl)
+pub loop-taken-init : goal.loop-taken-init
+loop-taken-init c = (start _ _ _ _ c.begin.ensures.stacked, refl)
 
-pub next-taken-requires : goal.next-taken-requires
-next-taken-requires c = record { entries = (may_walk c.requires.normal_ready (entered (goal.at.next-taken-requires c).After-child_section-children)).0; stacked = c.loop-statement.invariant.0.stacked }
+pub next-requires : goal.next-requires
+next-requires c = record { entries = (may_walk c.requires.normal_ready (entered (goal.at.next-requires c).After-child_section-children)).0; stacked = c.loop-taken.invariant.0.stacked }
 
 pub close-last-requires : goal.close-last-requires
-close-last-requires c = record { layout_value = c.requires.layout_value; near = omega (arith, near (here (goal.at.close-last-requires c).At-loop-statement) c.loop-statement.invariant.0 c.begin-line.ensures.1) }
+close-last-requires c = record {
+  layout_value = c.requires.layout_value;
+  near = omega (
+    arith,
+    near (here (goal.at.close-last-requires c).At-loop-taken) c.loop-taken.invariant.0 c.begin-line.ensures.1,
+  );
+}
 
-pub shape_of-stack-in_default : goal.shape_of-stack-in_default
-shape_of-stack-in_default c = c.next-taken.auto.stack ∙ c.loop-statement.invariant.1 ∙ c.begin.auto.stack
+pub shape_of-stack : goal.shape_of-stack
+shape_of-stack c = c.next.auto.stack ∙ c.loop-taken.invariant.1 ∙ c.begin.auto.stack
 
-pub shape_of-out-in_default : goal.shape_of-out-in_default
-shape_of-out-in_default c = c.close-last.auto.out ∙ laid_kept c.loop-statement.invariant.0.laid ∙ c.begin-line.auto.out
+pub shape_of-out : goal.shape_of-out
+shape_of-out c = c.close-last.auto.out ∙ laid_kept c.loop-taken.invariant.0.laid ∙ c.begin-line.auto.out
 
-pub returns-in_default : goal.returns-in_default
-returns-in_default c =
-    printed (here (goal.at.returns-in_default c).At-loop-statement) c.loop-statement.invariant.0 (came_end _ _ _ _ _ _ c.next-taken.ensures c.in_default.is) (omega arith)
+pub returns : goal.returns
+returns c =
+    printed (here (goal.at.returns c).At-loop-taken) c.loop-taken.invariant.0 (came_end _ _ _ _ _ _ c.next.ensures c.in_default.is) (omega arith)
     c.begin-line.ensures.0 c.close-last.ensures
 
 pub plain_word-word-requires : goal.plain_word-word-requires
 plain_word-word-requires c =
     let ready =
-    word_ready (here (goal.at.plain_word-word-requires c).At-loop-statement) c.loop-statement.invariant.0
-    (stepped (goal.at.plain_word-word-requires c).In-Step) in
+    word_ready (here (goal.at.plain_word-word-requires c).At-loop-taken) c.loop-taken.invariant.0
+    (stepped (goal.at.plain_word-word-requires c).In-Some) in
     record { statement_in = ready.0; hyp_ready = ready.1 }
 
 pub put_step_word-line-requires : goal.put_step_word-line-requires
 put_step_word-line-requires c =
-    let h = here (goal.at.put_step_word-line-requires c).At-loop-statement in
+    let h = here (goal.at.put_step_word-line-requires c).At-loop-taken in
     record {
       layout_value = c.requires.layout_value;
-      word_inside = word_in h c.loop-statement.invariant.0 (stepped (goal.at.put_step_word-line-requires c).In-Step) c.plain_word-word.ensures;
-      most_laid_bound = near h c.loop-statement.invariant.0 c.begin-line.ensures.1;
+      word_inside = word_in h c.loop-taken.invariant.0 (stepped (goal.at.put_step_word-line-requires c).In-Some) c.plain_word-word.ensures;
+      most_laid_bound = near h c.loop-taken.invariant.0 c.begin-line.ensures.1;
     }
 
-pub loop-statement-smaller : goal.loop-statement-smaller
-loop-statement-smaller c = fewer (stepped (goal.at.loop-statement-smaller c).In-Step)
+pub loop-taken-smaller : goal.loop-taken-smaller
+loop-taken-smaller c = fewer (stepped (goal.at.loop-taken-smaller c).In-Some)
 
-pub loop-statement-preserved : goal.loop-statement-preserved
-loop-statement-preserved c = (
-  turn (here (goal.at.loop-statement-preserved c).At-loop-statement) c.loop-statement.invariant.0 (stepped (goal.at.loop-statement-preserved c).In-Step)
+pub loop-taken-preserved : goal.loop-taken-preserved
+loop-taken-preserved c = (
+  turn (here (goal.at.loop-taken-preserved c).At-loop-taken) c.loop-taken.invariant.0 (stepped (goal.at.loop-taken-preserved c).In-Some)
       c.plain_word-word.ensures c.put_step_word-line.ensures,
-  c.next-taken.auto.stack ∙ c.loop-statement.invariant.1,
+  c.next.auto.stack ∙ c.loop-taken.invariant.1,
 )

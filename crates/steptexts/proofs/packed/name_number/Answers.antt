@@ -11,4 +11,4 @@ returns-then-m-eq0 c = rw (eqb_yes c.args.m 0 (omega (arith, c.if-m-eq0.true)))
 
 pub returns : goal.returns
 unfolding number_at
-returns c = rw (eqb_no c.args.m 0 (λ z. omega (arith, c.if-m-eq0.false)), c.wide.ensures)
+returns c = rw (eqb_no c.args.m 0 (λ z. omega (arith, c.if-m-eq0.false)))

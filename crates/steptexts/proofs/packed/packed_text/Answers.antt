@@ -31,42 +31,34 @@ pub begin-line-requires : goal.begin-line-requires
 begin-line-requires c = c.requires.layout_value
 
 pub loop-i-init : goal.loop-i-init
-loop-i-init c = (omega arith, start c.requires.packed_ready _ _)
-
-pub overflow_mul-at : goal.overflow_mul-at
-overflow_mul-at c = omega (arith, c.requires.packed_ready.inside, c.loop-i-test.true)
-
-pub overflow_add-at : goal.overflow_add-at
-overflow_add-at c = omega (arith, c.requires.packed_ready.inside, c.loop-i-test.true)
+loop-i-init c = start c.requires.packed_ready _ _
 
 pub packed_word-word-requires : goal.packed_word-word-requires
-packed_word-word-requires c = word_ready c.requires.packed_ready (lent (goal.at.packed_word-word-requires c).At-loop-i) _ c.loop-i-test.true
+packed_word-word-requires c = word_ready c.requires.packed_ready (lent (goal.at.packed_word-word-requires c).At-loop-i) _ (omega arith)
 
 pub put_step_word-line-requires : goal.put_step_word-line-requires
 put_step_word-line-requires c =
     let p : At-loop-i = (goal.at.put_step_word-line-requires c).At-loop-i in
-    let r = c.requires.packed_ready in record { layout_value = c.requires.layout_value; word_inside = word_in r (lent p) _ c.loop-i-test.true c.packed_word-word.ensures; most_laid_bound = near r (lent p) _ c.loop-i.invariant.1 c.loop-i.invariant.0 c.begin-line.ensures.1 }
-
-pub overflow_add-i : goal.overflow_add-i
-overflow_add-i c = omega (arith, c.loop-i-test.true, c.ranges)
-
-pub loop-i-smaller : goal.loop-i-smaller
-loop-i-smaller c = omega (arith, c.loop-i-test.true)
+    let r = c.requires.packed_ready in record {
+      layout_value = c.requires.layout_value;
+      word_inside = word_in r (lent p) _ (omega arith) c.packed_word-word.ensures;
+      most_laid_bound = near r (lent p) _ c.loop-i.invariant (omega arith) c.begin-line.ensures.1;
+    }
 
 pub loop-i-preserved : goal.loop-i-preserved
 loop-i-preserved c =
     let p : At-loop-i = (goal.at.loop-i-preserved c).At-loop-i in
-    (omega (arith, c.loop-i-test.true), turn c.requires.packed_ready (lent p) _ c.loop-i.invariant.1 c.packed_word-word.ensures c.put_step_word-line.ensures)
+    turn c.requires.packed_ready (lent p) _ c.loop-i.invariant c.packed_word-word.ensures c.put_step_word-line.ensures
 
 pub close-last-requires : goal.close-last-requires
 close-last-requires c =
     let p : At-loop-i = (goal.at.close-last-requires c).At-loop-i in
-    record { layout_value = c.requires.layout_value; near = omega (arith, near c.requires.packed_ready (lent p) _ c.loop-i.invariant.1 c.loop-i.invariant.0 c.begin-line.ensures.1) }
+    record { layout_value = c.requires.layout_value; near = omega (arith, near c.requires.packed_ready (lent p) _ c.loop-i.invariant (omega arith) c.begin-line.ensures.1) }
 
 pub shape_of-out : goal.shape_of-out
-shape_of-out c = c.close-last.auto.out ∙ laid_kept c.loop-i.invariant.1 ∙ c.begin-line.auto.out
+shape_of-out c = c.close-last.auto.out ∙ laid_kept c.loop-i.invariant ∙ c.begin-line.auto.out
 
 pub returns : goal.returns
 returns c =
     let p : At-loop-i = (goal.at.returns c).At-loop-i in
-    printed c.requires.packed_ready (lent p) _ c.loop-i.invariant.1 (omega (arith, c.loop-i-test.false, c.loop-i.invariant.0)) (omega arith) c.begin-line.ensures.0 c.close-last.ensures
+    printed c.requires.packed_ready (lent p) _ c.loop-i.invariant (omega arith) (omega arith) c.begin-line.ensures.0 c.close-last.ensures

@@ -1,10 +1,10 @@
 -- `store::find_entry` meets its contract. The invariant: the first match among the entries still to come is the first of all.
--- The measure is how many are to come. Assumes nothing.
+-- Assumes nothing.
 use mathlib.Core.Path.{◌≡◌, sym, ◌∙◌}
 use Prim.Native.Nat.{◌-◌, ◌/◌}
 use native.Mathlib.Omega.{arith}
 use lib.ListN.{length}
-use Rattle.store.proofs.LookupLaws.{first_end, first_here, first_next}
+use Rattle.store.proofs.LookupLaws.{first_end, first_here, first_next, entry_here, entry_none}
 use Rattle.store.specs.Store.{is_entry, lookup_all}
 use Rattle.store.proofs.lookup.find_entry.Goals as goal
 
@@ -12,29 +12,23 @@ pub loop-e-init : goal.loop-e-init
 loop-e-init c =
     let a = c.args in
     let all-of-them : length a.built.now / 3 - 0 ≡ length a.built.now / 3 = omega arith in
-    (omega arith, rw all-of-them (lookup_all a.built.now a.kids.now a.statement.0 a.wanted.now))
-
-pub overflow_cast-e : goal.overflow_cast-e
-overflow_cast-e c = omega (arith, c.requires.few)
-
-pub is_entry-requires : goal.is_entry-requires
-is_entry-requires c = record { entry_in = omega arith; e_in_bounds = c.requires.inside _ c.loop-e-test.true }
+    rw all-of-them (lookup_all a.built.now a.kids.now a.statement.0 a.wanted.now)
 
 pub returns-then-is_entry : goal.returns-then-is_entry
 returns-then-is_entry c =
     let p = c.loop-e in
     let a = c.args in
-    sym (first_here (is_entry a.built.now a.kids.now a.statement.0 a.wanted.now) p.e (length a.built.now / 3) (omega arith) (sym c.is_entry.ensures ∙ c.if-is_entry.true)) ∙ p.invariant.1
+    entry_here _ _ _ c.loop-e-test.true
+    (sym (first_here (is_entry a.built.now a.kids.now a.statement.0 a.wanted.now) p.e (length a.built.now / 3) (omega arith) (sym c.is_entry.ensures ∙ c.if-is_entry.true)) ∙ p.invariant)
 
 pub loop-e-preserved : goal.loop-e-preserved
 loop-e-preserved c =
     let p = c.loop-e in
     let a = c.args in
-    (omega arith, first_next (is_entry a.built.now a.kids.now a.statement.0 a.wanted.now) p.e (length a.built.now / 3) (omega arith) (sym c.is_entry.ensures ∙ c.if-is_entry.false) ∙ p.invariant.1)
+    first_next (is_entry a.built.now a.kids.now a.statement.0 a.wanted.now) p.e (length a.built.now / 3) (omega arith) (sym c.is_entry.ensures ∙ c.if-is_entry.false) ∙ p.invariant
 
 pub returns : goal.returns
 returns c =
     let p = c.loop-e in
     let a = c.args in
-    let last : p.e ≡ length a.built.now / 3 = omega arith in
-    sym last ∙ sym (first_end (is_entry a.built.now a.kids.now a.statement.0 a.wanted.now) p.e (length a.built.now / 3) (omega arith)) ∙ p.invariant.1
+    entry_none _ _ (omega (arith, first_end (is_entry a.built.now a.kids.now a.statement.0 a.wanted.now) p.e (length a.built.now / 3) (omega arith), p.invariant))

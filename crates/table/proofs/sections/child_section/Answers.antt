@@ -5,4 +5,4 @@ use Rattle.table.proofs.Lemmas.{child_part}
 use Rattle.table.proofs.sections.child_section.Goals as goal
 
 pub returns : goal.returns
-returns c = child_part _ c.requires _ _ c.wide-from.ensures refl
+returns c = child_part _ c.requires _ _ refl refl

@@ -1,7 +1,8 @@
 -- `table::statement_section` meets its contract: the header says where the section starts and where the next one does.
 -- Assumes nothing.
+use mathlib.Core.Path.{refl}
 use Rattle.table.proofs.Lemmas.{statement_part}
 use Rattle.table.proofs.sections.statement_section.Goals as goal
 
 pub returns : goal.returns
-returns c = statement_part _ c.requires _ _ c.wide-from.ensures c.wide-to.ensures
+returns c = statement_part _ c.requires _ _ refl refl

@@ -9,21 +9,13 @@ use lib.ListN.{length, get_or}
 use Rattle.laws.specs.Places.{all_decides, one_fails}
 use Rattle.table_check.proofs.entries.all_below.Goals as goal
 
-pub loop-i-init : goal.loop-i-init
-loop-i-init c = (omega arith, below_none _)
-
-pub returns-then-parent-child : goal.returns-then-parent-child
-returns-then-parent-child c =
-    let here = get_or c.args.children.now c.loop-i.i 0 in
+pub returns-then-parent-c : goal.returns-then-parent-c
+returns-then-parent-c c =
+    let here = get_or c.args.children.now c.loop-c.c-index 0 in
     let parent = c.args.parent.0 in
-    sym (one_fails (λ x. ltb x parent) _ c.loop-i.i (omega arith) (le-ltb here parent (omega arith)))
-
-pub loop-i-preserved : goal.loop-i-preserved
-loop-i-preserved c =
-    let here = get_or c.args.children.now c.loop-i.i 0 in
-    (omega arith, below_more _ _ c.loop-i.invariant.1 (lt-ltb here c.args.parent.0 (omega arith)))
+    sym (one_fails (λ x. ltb x parent) _ c.loop-c.c-index (omega arith) (le-ltb here parent (omega arith)))
 
 pub returns : goal.returns
 returns c =
-    let end : c.loop-i.i ≡ length c.args.children.now = omega arith in
-    sym ((all_decides (λ x. ltb x c.args.parent.0) _).yes (rw end at c.loop-i.invariant.1))
+    let end : c.loop-c.c-index ≡ length c.args.children.now = omega arith in
+    sym ((all_decides (λ x. ltb x c.args.parent.0) _).yes (rw end at c.loop-c.invariant.1))

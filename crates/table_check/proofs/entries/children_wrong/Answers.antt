@@ -9,26 +9,13 @@ use Rattle.laws.specs.Below.{all_below_all, all_below_fails}
 use Rattle.laws.specs.Lists.{T_of, not_no}
 use Rattle.laws.specs.Tools.{all, all_below}
 use Rattle.defs.specs.Check.{children_below}
-use Rattle.table_check.proofs.EntryLaws.{children_part}
 use Rattle.table_check.proofs.entries.children_wrong.Goals.{After-all_below}
 use Rattle.table_check.proofs.entries.children_wrong.Goals as goal
 
 -- what the walk through one list says of its entry
 seen : (c : After-all_below) → c.all_below.result ≡ children_below c.args.entries.now c.args.children.now c.loop-e.e
 unfolding children_below
-seen c = c.all_below.ensures ∙ ap (all (λ x. ltb x c.loop-e.e)) (children_part _ _ _ _ _ c.child_start-start.ensures c.child_count.ensures)
-
-pub loop-e-init : goal.loop-e-init
-loop-e-init c = (omega arith, below_none _)
-
-pub overflow_add-end : goal.overflow_add-end
-overflow_add-end c = omega (arith, c.requires.inside c.loop-e.e (omega arith))
-
-pub offset_bounds-children-start : goal.offset_bounds-children-start
-offset_bounds-children-start c = omega (arith, c.requires.inside c.loop-e.e (omega arith))
-
-pub slice_bounds-all_below-end : goal.slice_bounds-all_below-end
-slice_bounds-all_below-end c = omega (arith, c.requires.inside c.loop-e.e (omega arith))
+seen c = c.all_below.ensures ∙ ap (all (λ x. ltb x c.loop-e.e)) c.children_of.ensures
 
 pub returns-then-not-all_below : goal.returns-then-not-all_below
 returns-then-not-all_below c = ap not (sym (all_below_fails _ c.loop-e.e _ (omega arith) (sym (seen (goal.at.returns-then-not-all_below c).After-all_below) ∙ c.if-not-all_below.true)))

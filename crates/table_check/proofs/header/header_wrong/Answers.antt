@@ -6,7 +6,7 @@ use mathlib.Core.Path.{sym, ap}
 use native.Mathlib.Omega.{arith}
 use lib.ListN.{length}
 use Rattle.defs.specs.Check.{bad1}
-use Rattle.defs.specs.Table.{header_size, stmt_size, entry_size}
+use Rattle.defs.specs.Table.{word, header_size, stmt_size, entry_size}
 use Rattle.laws.specs.Decides.{last_differs}
 use Rattle.table_check.proofs.HeaderLaws.{header_decides}
 use Rattle.table_check.proofs.header.header_wrong.Goals as goal
@@ -31,27 +31,27 @@ pub returns-then-words-gt-MAX_CHILD_REFS : goal.returns-then-words-gt-MAX_CHILD_
 unfolding bad1
 returns-then-words-gt-MAX_CHILD_REFS c = sym (ap not ((header_decides _).no (λ ok. omega arith)))
 
-pub returns-then-wide-ne-HEADER_WORDS : goal.returns-then-wide-ne-HEADER_WORDS
+pub returns-then-words-ne-HEADER_WORDS : goal.returns-then-words-ne-HEADER_WORDS
 unfolding bad1
-returns-then-wide-ne-HEADER_WORDS c = sym (ap not ((header_decides _).no (λ ok. omega arith)))
+returns-then-words-ne-HEADER_WORDS c = sym (ap not ((header_decides _).no (λ ok. omega arith)))
 
-pub returns-then-wide-hyps_from : goal.returns-then-wide-hyps_from
+pub returns-then-words-hyps_from : goal.returns-then-words-hyps_from
 unfolding bad1
-returns-then-wide-hyps_from c = sym (ap not ((header_decides _).no (λ ok. omega arith)))
+returns-then-words-hyps_from c = sym (ap not ((header_decides _).no (λ ok. omega arith)))
 
-pub returns-then-wide-entries_from : goal.returns-then-wide-entries_from
+pub returns-then-words-entries_from : goal.returns-then-words-entries_from
 unfolding bad1
-returns-then-wide-entries_from c = sym (ap not ((header_decides _).no (λ ok. omega arith)))
+returns-then-words-entries_from c = sym (ap not ((header_decides _).no (λ ok. omega arith)))
 
-pub returns-then-wide-children_from : goal.returns-then-wide-children_from
+pub returns-then-words-children_from : goal.returns-then-words-children_from
 unfolding bad1
-returns-then-wide-children_from c = sym (ap not ((header_decides _).no (λ ok. omega arith)))
+returns-then-words-children_from c = sym (ap not ((header_decides _).no (λ ok. omega arith)))
 
 pub returns : goal.returns
 unfolding bad1
 returns c =
     let w = c.args.words.now in
-    let whole = header_size + stmt_size * c.wide.result + c.wide-2.result + entry_size * c.wide-3.result + c.wide-4.result in
+    let whole = header_size + stmt_size * word w 0 + word w 1 + entry_size * word w 2 + word w 3 in
     last_differs (header_decides w) (length w) whole
     (λ e. record {
       ten = omega arith;

@@ -8,14 +8,8 @@ use Rattle.laws.specs.Below.{all_below_all, all_below_fails}
 use Rattle.laws.specs.Lists.{T_of, of_T}
 use Rattle.table_check.proofs.hypotheses.references_right.Goals as goal
 
-pub loop-i-init : goal.loop-i-init
-loop-i-init c = (omega arith, below_none _)
-
 pub returns-then-not-reference_right : goal.returns-then-not-reference_right
 returns-then-not-reference_right c = sym (all_below_fails _ c.loop-i.i _ (omega arith) (sym c.reference_right.ensures ∙ c.if-not-reference_right.true))
-
-pub loop-i-preserved : goal.loop-i-preserved
-loop-i-preserved c = (omega arith, below_more _ _ c.loop-i.invariant.1 (sym c.reference_right.ensures ∙ c.if-not-reference_right.false))
 
 pub returns : goal.returns
 returns c =

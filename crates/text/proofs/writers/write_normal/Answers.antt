@@ -11,7 +11,7 @@ use lib.ListN.{length}
 use native.Mathlib.Omega.{arith}
 use mathlib.Core.List.{◌++◌}
 use mathlib.Core.Bool.{false}
-use mathlib.Core.Path.{◌≡◌, sym, ap, ◌∙◌}
+use mathlib.Core.Path.{◌≡◌, refl, sym, ap, ◌∙◌}
 use Rattle.text.proofs.writers.write_normal.Goals.{After-explicit-explicit, After-normal_text-length, Else-has_many_steps}
 use Rattle.text.proofs.writers.write_normal.Goals as goal
 
@@ -39,18 +39,37 @@ pub has_many_steps-requires : goal.has_many_steps-requires
 has_many_steps-requires c = record { b = c.args.labels.now; ok = c.requires.writable.ok; enough = c.requires.writable.enough }
 
 pub returns-then-has_many_steps : goal.returns-then-has_many_steps
-returns-then-has_many_steps c = too_many _ _ _ _ _ c.requires.style_value.0 c.requires.style_value.1 (sym c.has_many_steps.ensures ∙ c.if-has_many_steps.true) _ _ c.refused.ensures.0 c.refused.ensures.1
+returns-then-has_many_steps c = too_many _ _ _ _ _ c.requires.style_value.0 c.requires.style_value.1 (sym c.has_many_steps.ensures ∙ c.if-has_many_steps.true) _ _ refl refl
 
 pub normal_text-length-requires : goal.normal_text-length-requires
-normal_text-length-requires c = record { layout_value = c.requires.writable.right; normal_ready = normal_ready _ _ c.requires.writable.ok _ (few (goal.at.normal_text-length-requires c).Else-has_many_steps) (omega (arith, c.requires.writable.enough, c.has_many_steps.auto.work)) }
+normal_text-length-requires c = record {
+  layout_value = c.requires.writable.right;
+  normal_ready = normal_ready _ _ c.requires.writable.ok _ (few (goal.at.normal_text-length-requires c).Else-has_many_steps) (omega (
+    arith,
+    c.requires.writable.enough,
+    c.has_many_steps.auto.work,
+  ));
+}
 
 pub returns-then-out-length : goal.returns-then-out-length
-returns-then-out-length c = no_room _ _ _ _ _ (normal_late _ _ _ _ _ c.requires.style_value.0 c.requires.style_value.1 (few (goal.at.returns-then-out-length c).Else-has_many_steps)) _ _ _ c.refused-then-out-length.ensures.0 c.refused-then-out-length.ensures.1 (unlent (goal.at.returns-then-out-length c).After-normal_text-length) (omega (arith, c.if-out-length.true, ap length (unlent (goal.at.returns-then-out-length c).After-normal_text-length), measured (goal.at.returns-then-out-length c).After-normal_text-length))
+returns-then-out-length c = no_room _ _ _ _ _ (normal_late _ _ _ _ _ c.requires.style_value.0 c.requires.style_value.1 (few (goal.at.returns-then-out-length c).Else-has_many_steps)) _ _ _ refl refl (unlent (goal.at.returns-then-out-length c).After-normal_text-length) (omega (arith, c.if-out-length.true, ap length (unlent (goal.at.returns-then-out-length c).After-normal_text-length), measured (goal.at.returns-then-out-length c).After-normal_text-length))
 
 pub normal_text-requires : goal.normal_text-requires
-normal_text-requires c = record { layout_value = c.requires.writable.right; normal_ready = normal_ready _ _ c.requires.writable.ok _ (few (goal.at.normal_text-requires c).Else-has_many_steps) (omega (arith, c.requires.writable.enough, c.has_many_steps.auto.work, c.normal_text-length.auto.stack)) }
+normal_text-requires c = record {
+  layout_value = c.requires.writable.right;
+  normal_ready = normal_ready _ _ c.requires.writable.ok _ (few (goal.at.normal_text-requires c).Else-has_many_steps) (omega (
+    arith,
+    c.requires.writable.enough,
+    c.has_many_steps.auto.work,
+    c.normal_text-length.auto.stack,
+  ));
+}
 
 pub returns : goal.returns
 returns c =
     fits _ _ _ _ _ (normal_late _ _ _ _ _ c.requires.style_value.0 c.requires.style_value.1 (few (goal.at.returns c).Else-has_many_steps)) _ _ (measured (goal.at.returns c).After-normal_text-length) (omega (arith, c.if-out-length.false, ap length (unlent (goal.at.returns c).After-normal_text-length), measured (goal.at.returns c).After-normal_text-length))
-    (over_both _ _ _ _ _ (c.normal_text.ensures.fits (omega (arith, c.if-out-length.false, c.normal_text-length.ensures.ends))) (text_is (goal.at.returns c).After-explicit-explicit) (unlent (goal.at.returns c).After-normal_text-length))
+    (over_both _ _ _ _ _ (c.normal_text.ensures.fits (omega (
+      arith,
+      c.if-out-length.false,
+      c.normal_text-length.ensures.ends,
+    ))) (text_is (goal.at.returns c).After-explicit-explicit) (unlent (goal.at.returns c).After-normal_text-length))

@@ -9,7 +9,7 @@ use Rattle.defs.specs.Text.{packed_of, is_explicit, steps_text, text_of}
 use lib.ListN.{length}
 use native.Mathlib.Omega.{arith}
 use mathlib.Core.List.{◌++◌}
-use mathlib.Core.Path.{◌≡◌, sym, ap, ◌∙◌}
+use mathlib.Core.Path.{◌≡◌, refl, sym, ap, ◌∙◌}
 use Rattle.text.proofs.writers.write_packed.Goals.{After-explicit-explicit, After-packed_text-length}
 use Rattle.text.proofs.writers.write_packed.Goals as goal
 
@@ -30,9 +30,13 @@ measured c = c.packed_text-length.ensures.ends ∙ ap length ((let it : let a = 
     rw e (sym (packed_style a.words.now a.labels.now (number_of a.style) (layout_of a.layout) c.requires.style_value.0 c.requires.style_value.1)) in it))
 
 pub returns-then-out-length : goal.returns-then-out-length
-returns-then-out-length c = no_room _ _ _ _ _ (packed_late _ _ _ _ _ c.requires.style_value.0 c.requires.style_value.1) _ _ _ c.refused.ensures.0 c.refused.ensures.1 (unlent (goal.at.returns-then-out-length c).After-packed_text-length) (omega (arith, c.if-out-length.true, ap length (unlent (goal.at.returns-then-out-length c).After-packed_text-length), measured (goal.at.returns-then-out-length c).After-packed_text-length))
+returns-then-out-length c = no_room _ _ _ _ _ (packed_late _ _ _ _ _ c.requires.style_value.0 c.requires.style_value.1) _ _ _ refl refl (unlent (goal.at.returns-then-out-length c).After-packed_text-length) (omega (arith, c.if-out-length.true, ap length (unlent (goal.at.returns-then-out-length c).After-packed_text-length), measured (goal.at.returns-then-out-length c).After-packed_text-length))
 
 pub returns : goal.returns
 returns c =
     fits _ _ _ _ _ (packed_late _ _ _ _ _ c.requires.style_value.0 c.requires.style_value.1) _ _ (measured (goal.at.returns c).After-packed_text-length) (omega (arith, c.if-out-length.false, ap length (unlent (goal.at.returns c).After-packed_text-length), measured (goal.at.returns c).After-packed_text-length))
-    (over_both _ _ _ _ _ (c.packed_text.ensures.fits (omega (arith, c.if-out-length.false, c.packed_text-length.ensures.ends))) (text_is (goal.at.returns c).After-explicit-explicit) (unlent (goal.at.returns c).After-packed_text-length))
+    (over_both _ _ _ _ _ (c.packed_text.ensures.fits (omega (
+      arith,
+      c.if-out-length.false,
+      c.packed_text-length.ensures.ends,
+    ))) (text_is (goal.at.returns c).After-explicit-explicit) (unlent (goal.at.returns c).After-packed_text-length))

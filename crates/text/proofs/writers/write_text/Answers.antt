@@ -14,13 +14,28 @@ is-packed : (c : After-packed) → is_packed (number_of c.args.style) ≡ c.pack
 is-packed c = sym (packed_number c.args.style) ∙ sym c.packed.ensures
 
 pub write_compressed-requires : goal.write_compressed-requires
-write_compressed-requires c = record { writable = c.requires.writable; writable_sums = c.requires.writable_sums (is-compressed (goal.at.write_compressed-requires c).After-compressed ∙ c.if-compressed.true) }
+write_compressed-requires c = record {
+  writable = c.requires.writable;
+  writable_sums = c.requires.writable_sums (is-compressed (goal.at.write_compressed-requires c).After-compressed ∙ c.if-compressed.true);
+}
 
 pub returns-then-compressed : goal.returns-then-compressed
 returns-then-compressed c = rw (compressed_zero _ (sym c.compressed.ensures ∙ c.if-compressed.true)) c.write_compressed.ensures
 
 pub write_packed-requires : goal.write_packed-requires
-write_packed-requires c = record { writable = c.requires.writable; style_value = (is-compressed (goal.at.write_packed-requires c).After-compressed ∙ c.if-compressed.false, is-packed (goal.at.write_packed-requires c).After-packed ∙ c.if-packed.true) }
+write_packed-requires c = record {
+  writable = c.requires.writable;
+  style_value = (
+    is-compressed (goal.at.write_packed-requires c).After-compressed ∙ c.if-compressed.false,
+    is-packed (goal.at.write_packed-requires c).After-packed ∙ c.if-packed.true,
+  );
+}
 
 pub write_normal-requires : goal.write_normal-requires
-write_normal-requires c = record { writable = c.requires.writable; style_value = (is-compressed (goal.at.write_normal-requires c).After-compressed ∙ c.if-compressed.false, is-packed (goal.at.write_normal-requires c).After-packed ∙ c.if-packed.false) }
+write_normal-requires c = record {
+  writable = c.requires.writable;
+  style_value = (
+    is-compressed (goal.at.write_normal-requires c).After-compressed ∙ c.if-compressed.false,
+    is-packed (goal.at.write_normal-requires c).After-packed ∙ c.if-packed.false,
+  );
+}

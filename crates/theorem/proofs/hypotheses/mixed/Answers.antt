@@ -1,37 +1,31 @@
 -- `mixed` meets its contract. The answer of the whole list is that of the part still to come, with what was seen of essentials before it.
--- The measure is what is left of the list.
-use mathlib.Core.Path.{refl, sym, ◌∙◌}
-use mathlib.Core.Logic.{inl, inr}
-use native.Mathlib.Omega.{arith}
-use Rattle.theorem.proofs.Searches.{mixed_next, mixed_hit, mixed_end}
-use Rattle.theorem.proofs.hypotheses.mixed.Goals.{then-essential+else-k-eq-FLOATING, else-essential, then-k-eq-ESSENTIAL, else-k-eq-ESSENTIAL}
+-- The part still to come is what the loop has not passed.
+use mathlib.Core.Path.{sym, ◌∙◌}
+use lib.ListN.{get_or}
+use Rattle.laws.specs.Lists.{boole}
+use Rattle.defs.specs.Table.{kind_in}
+use Rattle.theorem.proofs.Searches.{mixed_next, mixed_hit, mixed_end, floating, essential}
+use Rattle.theorem.proofs.hypotheses.mixed.Goals.{else-essential-via-then-essential+else-eq, else-essential-via-else-essential, then-eq-2, else-eq-2}
 use Rattle.theorem.proofs.hypotheses.mixed.Goals as goal
 
-pub loop-i-init : goal.loop-i-init
-loop-i-init c = (omega arith, refl)
+pub returns-then-eq : goal.returns-then-eq
+returns-then-eq c =
+    sym (mixed_hit (kind_in c.args.statements.now) _ _ _ c.loop-k-test.true c.if-essential.true (floating _ _ _ c.kind_of-kind.ensures c.eq.ensures ∙ c.if-eq.true))
+    ∙ c.loop-k.invariant
 
-pub kind-k-requires : goal.kind-k-requires
-kind-k-requires c = c.requires.inside _ c.loop-i-test.true
-
-pub returns-then-k-eq-FLOATING : goal.returns-then-k-eq-FLOATING
-returns-then-k-eq-FLOATING c =
-    sym (mixed_hit _ _ _ c.loop-i.essential _ c.loop-i-test.true c.kind-k.ensures c.if-essential.true (omega arith)) ∙ c.loop-i.invariant.1
-
-pub loop-i-preserved : goal.loop-i-preserved
-loop-i-preserved c =
-    let p = c.loop-i in (
-      omega arith,
-      sym (mixed_next _ _ _ p.essential _ c.kind-k.result c.loop-i-test.true c.kind-k.ensures
-          (elim c.if-essential.branch [
-            | then-essential+else-k-eq-FLOATING w ↦ inl (w.if-essential.true, λ one. omega arith)
-            | else-essential w ↦ inr w.if-essential.false
-          ])
-          (elim c.if-k-eq-ESSENTIAL.branch [
-            | then-k-eq-ESSENTIAL w ↦ inl (omega arith, w.essential-is)
-            | else-k-eq-ESSENTIAL w ↦ inr (λ two. omega arith, w.essential-is)
-          ]))
-          ∙ p.invariant.1,
-    )
+pub loop-k-preserved : goal.loop-k-preserved
+loop-k-preserved c =
+    let two = essential (kind_in c.args.statements.now (get_or c.args.list.now c.loop-k.k-index 0)) _ _ c.kind_of-kind.ensures c.eq-in-loop-k.ensures in
+    sym (mixed_next (kind_in c.args.statements.now) _ _ c.loop-k.essential _ c.loop-k-test.true
+    (elim c.else-essential.branch [
+      | else-essential-via-then-essential+else-eq w ↦ rw (w.if-essential.true, floating _ _ _ c.kind_of-kind.ensures w.eq.ensures) w.if-eq.false
+      | else-essential-via-else-essential w ↦ rw w.if-essential.false
+    ])
+    (elim c.if-eq-2.branch [
+      | then-eq-2 w ↦ w.essential-is ∙ rw (two, w.if-eq-2.true) (boole c.loop-k.essential (λ t. rw t) (λ t. rw t))
+      | else-eq-2 w ↦ w.essential-is ∙ rw (two, w.if-eq-2.false) (boole c.loop-k.essential (λ t. rw t) (λ t. rw t))
+    ]))
+    ∙ c.loop-k.invariant
 
 pub returns : goal.returns
-returns c = sym (mixed_end _ _ _ c.loop-i.essential c.loop-i-test.false) ∙ c.loop-i.invariant.1
+returns c = sym (mixed_end _ _ _ c.loop-k.essential c.loop-k-test.false) ∙ c.loop-k.invariant

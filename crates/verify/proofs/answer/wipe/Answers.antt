@@ -5,5 +5,6 @@ use Rattle.verify.proofs.answer.wipe.Goals as goal
 
 pub returns : goal.returns
 returns c =
-    all_wiped _ _ c.fill.ensures c.fill_short.ensures c.fill-2.ensures c.fill-3.ensures c.fill-4.ensures
-    c.fill_bytes.ensures c.fill-5.ensures c.fill-6.ensures c.fill-7.ensures c.fill-8.ensures
+    all_wiped _ _ (c.fill.ensures.after (λ y e. e)) (c.fill-2.ensures.after (λ y e. e)) (c.fill-3.ensures.after (λ y e. e)) (c.fill-4.ensures.after (λ y e. e))
+    (c.fill-5.ensures.after (λ y e. e)) (c.fill-6.ensures.after (λ y e. e)) (c.fill-7.ensures.after (λ y e. e)) (c.fill-8.ensures.after (λ y e. e))
+    (c.fill-9.ensures.after (λ y e. e)) (c.fill-10.ensures.after (λ y e. e))

@@ -1,12 +1,7 @@
 -- Two stores make the first pair of the stack: the root, and its first child to come.
 -- What is left to come is then the whole normal list.
 use Rattle.walk.proofs.NormalLaws.{begins}
-use lib.ListN.{length-set}
-use native.Mathlib.Omega.{arith}
 use Rattle.walk.proofs.normal.begin.Goals as goal
-
-pub bounds-stack-1 : goal.bounds-stack-1
-bounds-stack-1 c = simp length-set (omega arith)
 
 pub returns : goal.returns
 returns c =

@@ -29,30 +29,6 @@ returns-then-top-eq0 c =
     let a = c.args in
     rw c.if-top-eq0.true (sym (root_parent a.entries.now a.explicit a.stack.now), sym (root_index a.entries.now a.explicit a.stack.now))
 
-pub overflow_mul-below : goal.overflow_mul-below
-overflow_mul-below c = let b = below c.args.entries.now c.args.stack.now c.args.top c.requires c.if-top-eq0.false in omega (arith, b)
-
-pub offset_bounds-stack-below : goal.offset_bounds-stack-below
-offset_bounds-stack-below c = let b = below c.args.entries.now c.args.stack.now c.args.top c.requires c.if-top-eq0.false in omega (arith, b)
-
-pub bounds-stack-below : goal.bounds-stack-below
-bounds-stack-below c = let b = below c.args.entries.now c.args.stack.now c.args.top c.requires c.if-top-eq0.false in omega (arith, b)
-
-pub overflow_add-below : goal.overflow_add-below
-overflow_add-below c = let b = below c.args.entries.now c.args.stack.now c.args.top c.requires c.if-top-eq0.false in omega (arith, b)
-
-pub offset_bounds-stack-below-2 : goal.offset_bounds-stack-below-2
-offset_bounds-stack-below-2 c = let b = below c.args.entries.now c.args.stack.now c.args.top c.requires c.if-top-eq0.false in omega (arith, b)
-
-pub bounds-stack-below-2 : goal.bounds-stack-below-2
-bounds-stack-below-2 c = let b = below c.args.entries.now c.args.stack.now c.args.top c.requires c.if-top-eq0.false in omega (arith, b)
-
-pub overflow_sub-stack : goal.overflow_sub-stack
-overflow_sub-stack c = let b = below c.args.entries.now c.args.stack.now c.args.top c.requires c.if-top-eq0.false in omega (arith, b)
-
-pub child_hyp-requires : goal.child_hyp-requires
-child_hyp-requires c = let b = below c.args.entries.now c.args.stack.now c.args.top c.requires c.if-top-eq0.false in omega (arith, b)
-
 pub returns : goal.returns
 returns c =
     let some : 0 < c.args.top = (below c.args.entries.now c.args.stack.now c.args.top c.requires c.if-top-eq0.false).some in

@@ -6,4 +6,4 @@ use Rattle.walk.proofs.room.working_words.Goals as goal
 
 pub returns : goal.returns
 unfolding need32
-returns c = omega (arith, c.wide.ensures, c.wide-2.ensures, c.wide-3.ensures)
+returns c = omega arith

@@ -8,8 +8,8 @@ label_span-requires c = rw c.hyp_statement.ensures c.requires.hyp_in
 
 pub returns-then-explicit : goal.returns-then-explicit
 unfolding hyp_span
-returns-then-explicit c = rw (c.if-explicit.true, ← c.hyp_statement.ensures) c.label_span.ensures
+returns-then-explicit c = rw (c.if-explicit.true, ← c.hyp_statement.ensures, c.label_span.ensures)
 
-pub returns : goal.returns
+pub returns-else-explicit : goal.returns-else-explicit
 unfolding hyp_span
-returns c = rw c.if-explicit.false c.none.ensures
+returns-else-explicit c = rw c.if-explicit.false

@@ -12,10 +12,10 @@ pub hyp_start-requires : goal.hyp_start-requires
 hyp_start-requires c = parent_stands _ _ _ _ _ _ c.in-Of.is c.requires
 
 pub overflow_add-hyp_start : goal.overflow_add-hyp_start
-overflow_add-hyp_start c = omega (arith, c.hyp_start.ensures, c.wide.ensures, list_stands _ _ _ _ _ _ c.in-Of.is c.requires)
+overflow_add-hyp_start c = omega (arith, c.hyp_start.ensures, list_stands _ _ _ _ _ _ c.in-Of.is c.requires)
 
 pub hypothesis-requires : goal.hypothesis-requires
-hypothesis-requires c = omega (arith, c.hyp_start.ensures, c.wide.ensures, list_stands _ _ _ _ _ _ c.in-Of.is c.requires)
+hypothesis-requires c = omega (arith, c.hyp_start.ensures, list_stands _ _ _ _ _ _ c.in-Of.is c.requires)
 
 pub returns : goal.returns
-returns c = rw (c.hyp_start.ensures, c.wide.ensures) at c.hypothesis.ensures ∙ of_statement _ _ _ _ _ _ c.in-Of.is
+returns c = rw c.hyp_start.ensures at c.hypothesis.ensures ∙ of_statement _ _ _ _ _ _ c.in-Of.is

@@ -4,8 +4,8 @@ use native.Mathlib.Omega.{arith}
 use Rattle.words.proofs.PartLaws.{no_hyp_put, hyp_put}
 use Rattle.words.proofs.parts.put_hyp.Goals as goal
 
-pub returns-then-hyp-eq0 : goal.returns-then-hyp-eq0
-returns-then-hyp-eq0 c = no_hyp_put _ _ _ _ (omega (arith, c.if-hyp-eq0.true))
+pub returns-in_default : goal.returns-in_default
+returns-in_default c = rw c.in_default.is (no_hyp_put _ _ _)
 
 pub returns : goal.returns
-returns c = hyp_put _ _ (λ z. omega (arith, c.if-hyp-eq0.false)) (omega arith) (omega arith) c.put_piece-equals.ensures c.put_byte.ensures
+returns c = rw c.in-Some.is (hyp_put _ c.in-Some.field-0 (omega arith) (omega arith) c.put_piece-equals.ensures c.put_byte.ensures)

@@ -4,8 +4,8 @@ use native.Mathlib.Omega.{arith}
 use Rattle.words.proofs.PartLaws.{label_put, name_put}
 use Rattle.words.proofs.parts.put_last.Goals as goal
 
-pub returns-then-reference-ne0 : goal.returns-then-reference-ne0
-returns-then-reference-ne0 c = name_put _ _ _ (λ z. omega (arith, c.if-reference-ne0.true)) c.put_decimal.ensures
+pub returns-in-Some : goal.returns-in-Some
+returns-in-Some c = rw c.in-Some.is (name_put _ _ _ c.put_decimal.ensures)
 
 pub returns : goal.returns
-returns c = label_put _ _ _ (omega (arith, c.if-reference-ne0.false)) (omega arith) c.put_piece.ensures
+returns c = rw c.in_default.is (label_put _ _ (omega arith) c.put_piece.ensures)

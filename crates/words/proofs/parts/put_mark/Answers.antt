@@ -5,11 +5,15 @@ use Rattle.names.proofs.Decimals.{digits_most}
 use Rattle.words.proofs.PartLaws.{no_mark_put, mark_put}
 use Rattle.words.proofs.parts.put_mark.Goals as goal
 
-pub returns-then-number-eq0 : goal.returns-then-number-eq0
-returns-then-number-eq0 c = no_mark_put _ _ _ (omega (arith, c.if-number-eq0.true))
+pub returns-in_default : goal.returns-in_default
+returns-in_default c = rw c.in_default.is (no_mark_put _ _, omega arith)
 
 pub put_byte-requires : goal.put_byte-requires
-put_byte-requires c = omega (arith, c.put_decimal-colon.ensures.ends, c.requires, digits_most c.args.number (omega arith))
+put_byte-requires c = omega (arith, c.put_decimal-colon.ensures.ends, c.requires, digits_most c.in-Some.number (omega arith))
 
 pub returns : goal.returns
-returns c = mark_put _ _ (λ z. omega (arith, c.if-number-eq0.false)) (omega arith) c.put_decimal-colon.ensures c.put_byte.ensures
+returns c =
+    rw c.in-Some.is (
+      mark_put _ (omega arith) c.put_decimal-colon.ensures c.put_byte.ensures,
+      omega (arith, c.put_decimal-colon.ensures.ends, c.put_byte.ensures.ends, digits_most c.in-Some.number (omega arith)),
+    )

@@ -1,0 +1,10 @@
+-- `table::hyps_of`: what lies between where the record says that the list starts and where it ends is the list.
+-- Assumes nothing.
+use native.Mathlib.Omega.{arith}
+use Rattle.defs.specs.Table.{hyps_in}
+use Rattle.table.proofs.Lemmas.{between}
+use Rattle.table.proofs.statements.hyps_of.Goals as goal
+
+pub returns : goal.returns
+unfolding hyps_in
+returns c = between _ _ _ _ _ c.hyp_start-start.ensures (omega arith)
