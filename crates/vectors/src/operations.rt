@@ -7,7 +7,6 @@ use crate::hash::{Element, hash};
 use answers::{Written, WrittenTwo};
 use layout::Layout;
 
-// As it is: (d) a stored line has the three, a refusal's length 0, and they are compared as they stand there.
 #[derive(Clone, Copy, Debug, PartialEq, Eq)]
 pub struct Answer {
     pub number: u32,

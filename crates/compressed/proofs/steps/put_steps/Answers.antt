@@ -1,9 +1,8 @@
 -- `put_steps` meets its contract. The letters of the first i steps are laid, whatever list of steps the words say.
 -- Some list is said, so that the end is known to be near.
 use native.Mathlib.Omega.{arith}
-use Rattle.layout.proofs.Wrote.{lays_kept}
 use Rattle.lettering.proofs.Lemmas.{step_ready}
-use Rattle.compressed.proofs.StepLaws.{steps_none, steps_more, steps_all}
+use Rattle.compressed.proofs.StepLaws.{steps_none, steps_more}
 use Rattle.compressed.proofs.steps.put_steps.Goals as goal
 
 pub loop-i-init : goal.loop-i-init
@@ -26,9 +25,3 @@ put_step-laid-requires c =
 
 pub loop-i-preserved : goal.loop-i-preserved
 loop-i-preserved c = steps_more _ _ _ (omega arith) (omega arith) c.loop-i.invariant c.put_step-laid.ensures
-
-pub shape_of-out : goal.shape_of-out
-shape_of-out c = let r = c.requires.near_steps.1 in lays_kept (c.loop-i.invariant.laid r.thm r.labels r.ts r.says)
-
-pub returns : goal.returns
-returns c = steps_all _ _ _ (omega arith) c.loop-i.invariant

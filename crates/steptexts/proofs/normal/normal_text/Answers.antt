@@ -6,7 +6,6 @@ use lib.ListN.{length}
 use Rattle.table.specs.Headers.{header_ok}
 use Rattle.walk.specs.Normal.{left, Stepped, came_step, came_end}
 use Rattle.steptexts.proofs.Lent.{Entered}
-use Rattle.steptexts.proofs.Laying.{laid_kept}
 use Rattle.steptexts.proofs.NormalLaws.{start, may_walk, Here, near, word_ready, word_in, turn, fewer, printed}
 use Rattle.steptexts.proofs.normal.normal_text.Goals.{After-child_section-children, At-loop-taken, In-Some}
 use Rattle.steptexts.proofs.normal.normal_text.Goals as goal
@@ -68,9 +67,6 @@ begin-requires c =
     let walks = may_walk c.requires.normal_ready (entered (goal.at.begin-requires c).After-child_section-children) in
     record { entries = walks.0; root_bound = walks.1 }
 
-pub begin-line-requires : goal.begin-line-requires
-begin-line-requires c = c.requires.layout_value
-
 pub loop-taken-init : goal.loop-taken-init
 loop-taken-init c = (start _ _ _ _ c.begin.ensures.stacked, refl)
 
@@ -85,12 +81,6 @@ close-last-requires c = record {
     near (here (goal.at.close-last-requires c).At-loop-taken) c.loop-taken.invariant.0 c.begin-line.ensures.1,
   );
 }
-
-pub shape_of-stack : goal.shape_of-stack
-shape_of-stack c = c.next.auto.stack ∙ c.loop-taken.invariant.1 ∙ c.begin.auto.stack
-
-pub shape_of-out : goal.shape_of-out
-shape_of-out c = c.close-last.auto.out ∙ laid_kept c.loop-taken.invariant.0.laid ∙ c.begin-line.auto.out
 
 pub returns : goal.returns
 returns c =

@@ -1,10 +1,8 @@
 -- `packed_text` meets its contract: at turn i the words of the first i steps are laid. Every step is one of the table's,
 -- so what its word asks for is there.
-use mathlib.Core.Path.{◌∙◌}
 use native.Mathlib.Omega.{arith}
 use Rattle.table.specs.Headers.{header_ok}
 use Rattle.steptexts.proofs.Lent.{Lent}
-use Rattle.steptexts.proofs.Laying.{laid_kept}
 use Rattle.steptexts.proofs.PackedLaws.{word_ready, word_in, near, turn, printed, start}
 use Rattle.steptexts.proofs.packed.packed_text.Goals.{At-loop-i}
 use Rattle.steptexts.proofs.packed.packed_text.Goals as goal
@@ -26,9 +24,6 @@ statement_section-statements-requires c = header_ok _ _ c.requires.packed_ready.
 
 pub hyp_section-hyps-requires : goal.hyp_section-hyps-requires
 hyp_section-hyps-requires c = header_ok _ _ c.requires.packed_ready.ok
-
-pub begin-line-requires : goal.begin-line-requires
-begin-line-requires c = c.requires.layout_value
 
 pub loop-i-init : goal.loop-i-init
 loop-i-init c = start c.requires.packed_ready _ _
@@ -54,9 +49,6 @@ pub close-last-requires : goal.close-last-requires
 close-last-requires c =
     let p : At-loop-i = (goal.at.close-last-requires c).At-loop-i in
     record { layout_value = c.requires.layout_value; near = omega (arith, near c.requires.packed_ready (lent p) _ c.loop-i.invariant (omega arith) c.begin-line.ensures.1) }
-
-pub shape_of-out : goal.shape_of-out
-shape_of-out c = c.close-last.auto.out ∙ laid_kept c.loop-i.invariant ∙ c.begin-line.auto.out
 
 pub returns : goal.returns
 returns c =

@@ -3,9 +3,6 @@
 use Rattle.words.specs.Spelled.{hyp_span}
 use Rattle.words.proofs.hyps.hyp_span.Goals as goal
 
-pub label_span-requires : goal.label_span-requires
-label_span-requires c = rw c.hyp_statement.ensures c.requires.hyp_in
-
 pub returns-then-explicit : goal.returns-then-explicit
 unfolding hyp_span
 returns-then-explicit c = rw (c.if-explicit.true, ← c.hyp_statement.ensures, c.label_span.ensures)

@@ -5,9 +5,6 @@ use Rattle.words.proofs.PartLaws.{hyp_most}
 use Rattle.words.proofs.WordLaws.{spelled_put}
 use Rattle.words.proofs.word.put_bytes.Goals as goal
 
-pub put_hyp-last-requires : goal.put_hyp-last-requires
-put_hyp-last-requires c = record { inside = c.requires.word_inside.hyp_in; max_label_length_bound = omega (arith, c.requires.most_word_bound, c.put_mark-hyp.ensures.1) }
-
 pub put_last-requires : goal.put_last-requires
 put_last-requires c =
     record {
