@@ -8,13 +8,21 @@ use crate::kinds::Kind;
 use crate::limits::STATEMENT_WORDS;
 use crate::numbers::StatementNo;
 
+// The word of statement k's kind, also where it is the number of no kind.
+pub fn kind(statements: &[u32], k: StatementNo) -> u32
+    requires { StatementIn statements.now k.0 }
+    ensures { result ≡ kind_in statements.now k.0 }
+{
+    let at = k.0 as usize;
+    statements[STATEMENT_WORDS * at]
+}
+
 // None where the word is the number of no kind.
 pub fn kind_of(statements: &[u32], k: StatementNo) -> Option<Kind>
     requires { StatementIn statements.now k.0 }
     ensures { result ≡ kind_said (kind_in statements.now k.0) }
 {
-    let at = k.0 as usize;
-    Kind::from_number(statements[STATEMENT_WORDS * at])
+    Kind::from_number(kind(statements, k))
 }
 
 pub fn label_start(statements: &[u32], k: StatementNo) -> usize

@@ -7,7 +7,6 @@ ghost use Rattle.table_check.specs.Right.{HypsRight};
 
 use table::statements::{hypothesis, hyps_of, kind_of};
 use table::{Kind, StatementNo};
-use theorem::lists::repeats;
 
 // Reference i names a statement, of kind 1 or 2.
 fn reference_right(statements: &[u32], count: u32, hyps: &[u32], i: usize) -> bool
@@ -35,13 +34,26 @@ fn references_right(statements: &[u32], count: u32, hyps: &[u32]) -> bool
     true
 }
 
+// A word stands twice in a list: each is looked for among those before it. References below s repeat by place s, so that no list, however
+// long, takes more than s² comparisons.
+fn repeated(list: &[u32]) -> bool
+    ensures { result ≡ repeats list.now }
+{
+    for i in 0..list.len() {
+        if list[..i].contains(&list[i]) {
+            return true;
+        }
+    }
+    false
+}
+
 // A statement has a hypothesis twice in its list.
 fn lists_repeat(statements: &[u32], count: u32, hyps: &[u32]) -> bool
     requires { HypsRight statements.now hyps.now count }
     ensures { result ≡ some_below (hyps_repeat statements.now hyps.now) count }
 {
     for k in 0..count {
-        if repeats(hyps_of(statements, hyps, StatementNo(k))) {
+        if repeated(hyps_of(statements, hyps, StatementNo(k))) {
             return true;
         }
     }
