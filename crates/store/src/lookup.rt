@@ -8,6 +8,7 @@ ghost use Rattle.store.specs.Store.{holding, BuiltOk, is_entry, entry_below};
 
 use table::entries::{children_of, statement_of};
 use table::limits::ENTRY_WORDS;
+use table::same::same;
 use table::{EntryNo, StatementNo};
 
 #[tactic(auto, using(laws::specs::Library::pointwise_same), unfolding(crate::specs::Store::is_entry))]
@@ -16,7 +17,7 @@ fn is_entry(built: &[u32], kids: &[u32], e: EntryNo, statement: StatementNo, wan
     requires e_in_bounds { child_start_in built.now e.0 + child_count_in built.now e.0 ≤ length kids.now }
     ensures { result ≡ is_entry built.now kids.now statement.0 wanted.now e.0 }
 {
-    statement_of(built, e) == statement && children_of(built, kids, e) == wanted
+    statement_of(built, e) == statement && same(children_of(built, kids, e), wanted)
 }
 
 // None: no entry is equal.

@@ -1,1 +1,2 @@
 pub mod Lemmas
+mod SameLaws
