@@ -44,20 +44,20 @@ abbrev pub word_of : (ss hs : List ℕ) (theorem : ℕ) (explicit : Bool) (mark 
 word_of ss hs theorem explicit mark reference statement parent index =
     record { mark = mark; hyp = hyp_span ss hs theorem explicit parent index; label = span_of ss statement; reference = reference }
 
--- the mark's name and a colon
+-- the mark's name and a colon; a number 0 names no mark
 unfoldable pub mark_part : Option ℕ → List ℕ
 mark_part None = []
-mark_part (Some number) = digits number ++ colon ∷ []
+mark_part (Some number) = pick (eqb number 0) [] (digits number ++ colon ∷ [])
 
--- the hypothesis' label and an equals sign
+-- the hypothesis' label and an equals sign; a label of no bytes is none
 unfoldable pub hyp_part : List ℕ → Option Span → List ℕ
 hyp_part labels None = []
-hyp_part labels (Some hyp) = part hyp.start hyp.length labels ++ equals_sign ∷ []
+hyp_part labels (Some hyp) = pick (eqb hyp.length 0) [] (part hyp.start hyp.length labels ++ equals_sign ∷ [])
 
--- the label, or the referred name
+-- the label, or the referred name; a number 0 refers to no mark
 unfoldable pub last_part : List ℕ → Span → Option ℕ → List ℕ
 last_part labels label None = part label.start label.length labels
-last_part labels label (Some reference) = digits reference
+last_part labels label (Some reference) = pick (eqb reference 0) (part label.start label.length labels) (digits reference)
 
 -- all of it
 unfoldable pub spelled : List ℕ → Word → List ℕ

@@ -12,6 +12,7 @@ use Rattle.defs.specs.Check.{table_refusal}
 use Rattle.defs.specs.Checked.{theorem_below}
 use Rattle.defs.specs.Sections.{statements_ok, hyps_ok}
 use Rattle.defs.specs.Names.{name_number, name}
+use Rattle.defs.specs.NameLaws.{name_least}
 use Rattle.defs.specs.Steps.{Step}
 use Rattle.defs.specs.Text.{hyp_prefix, step_word}
 use Rattle.table.specs.Records.{StatementIn}
@@ -78,8 +79,14 @@ module _ (w b : List ℕ) (ok : table_refusal w b ≡ 0) where
     hyp_part_lem : (explicit : Bool) (k : ℕ) → k ≡ pick (eqb parent 0) (theorem w) (get_or (hyps w (parent - 1)) index 0)
         → hyp_part b (hyp_span ss hs (theorem w) explicit parent index) ≡ pick explicit (label w b k ++ equals_sign ∷ []) []
     unfolding hyp_part hyp_span label_in
-    hyp_part_lem true k e = rw (e, ← hyp_is)
+    hyp_part_lem true k e =
+        let some = (statements_ok w b ok).label_some (hyp_statement ss hs (theorem w) parent index) hyp_below in
+        rw (eqb_no (span_of ss (hyp_statement ss hs (theorem w) parent index)).length 0 (λ z. omega arith), e, ← hyp_is)
     hyp_part_lem false k e = refl
+
+  -- a mark's number is never 0
+  number_some : (m : ℕ) → ¬ (m ≡ 0) → ¬ (name_number w b m ≡ 0)
+  number_some m h z = omega (arith, name_least ss b (statements w) m)
 
   module _ (t : Step) (m : ℕ) (sound : StepSound w m t) (explicit : Bool) (mark reference : Option ℕ) where
     -- its labels lie where they should
@@ -96,7 +103,7 @@ module _ (w b : List ℕ) (ok : table_refusal w b ≡ 0) where
       mark_part_lem =
           elim (ℕ_discrete t.mark 0) [
             | yes e ↦ rw (eqb_yes t.mark 0 e, mark_is.none e)
-            | no e ↦ rw (eqb_no t.mark 0 e, mark_is.some e)
+            | no e ↦ rw (eqb_no t.mark 0 e, mark_is.some e, eqb_no (name_number w b t.mark) 0 (number_some t.mark e))
           ]
 
       -- and spell its word
@@ -105,5 +112,5 @@ module _ (w b : List ℕ) (ok : table_refusal w b ≡ 0) where
       word_spelled =
           elim (ℕ_discrete t.ref 0) [
             | yes e ↦ rw (eqb_yes t.ref 0 e, reference-is.none e, mark_part_lem, prefix_is)
-            | no e ↦ rw (eqb_no t.ref 0 e, reference-is.some e, mark_part_lem, eqb_yes t.mark 0 (sound.one_name e), prefix_is)
+            | no e ↦ rw (eqb_no t.ref 0 e, reference-is.some e, eqb_no (name_number w b t.ref) 0 (number_some t.ref e), mark_part_lem, eqb_yes t.mark 0 (sound.one_name e), prefix_is)
           ]

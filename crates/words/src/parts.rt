@@ -1,5 +1,6 @@
 // The parts of a word: the mark's name and a colon; the hypothesis' label and an equals sign; the label, or the referred name. Of each the
-// length, then the bytes: put from `at` on where they fit, and the end is the same either way.
+// length, then the bytes: put from `at` on where they fit, and the end is the same either way. The names of marks begin at 1 and no label
+// is empty, so a number 0 and a label of no bytes are no part, as None is.
 ghost use Rattle.std.specs.Prelude.{◌≡◌, ◌+◌, ◌<◌, ◌≤◌, length, IfSome};
 ghost use Rattle.laws.specs.Puts.{farthest, Grows};
 ghost use Rattle.defs.specs.Table.{max_label_length};
@@ -13,8 +14,8 @@ pub fn mark_length(mark: Option<u32>) -> usize
     ensures { (result ≡ length (mark_part mark)) × (result ≤ most_mark) }
 {
     match mark {
-        None => 0,
-        Some(number) => decimal_length(number) + 1,
+        Some(number) if number != 0 => decimal_length(number) + 1,
+        _ => 0,
     }
 }
 
@@ -22,11 +23,13 @@ pub fn put_mark(mark: Option<u32>, at: usize, out: &mut [u8]) -> usize
     requires { at + max_label_length < farthest }
     ensures { Grows (mark_part mark) at result out.old out.new × (result ≤ at + most_mark) }
 {
-    let Some(number) = mark else {
-        return at;
-    };
-    let colon = put_decimal(number, at, out);
-    put_byte(b':', colon, out)
+    match mark {
+        Some(number) if number != 0 => {
+            let colon = put_decimal(number, at, out);
+            put_byte(b':', colon, out)
+        }
+        _ => at,
+    }
 }
 
 pub fn hyp_length(hyp: Option<Span>) -> usize
@@ -34,8 +37,8 @@ pub fn hyp_length(hyp: Option<Span>) -> usize
     ensures { HypLong hyp result }
 {
     match hyp {
-        None => 0,
-        Some(label) => label.length + 1,
+        Some(label) if 0 < label.length => label.length + 1,
+        _ => 0,
     }
 }
 
@@ -44,12 +47,14 @@ pub fn put_hyp(labels: &[u8], hyp: Option<Span>, at: usize, out: &mut [u8]) -> u
     requires max_label_length_bound { at + max_label_length < farthest }
     ensures { Grows (hyp_part labels.now hyp) at result out.old out.new }
 {
-    let Some(Span { start, length }) = hyp else {
-        return at;
-    };
-    let end = start + length;
-    let equals = put_piece(&labels[start..end], at, out);
-    put_byte(b'=', equals, out)
+    match hyp {
+        Some(label) if 0 < label.length => {
+            let end = label.start + label.length;
+            let equals = put_piece(&labels[label.start..end], at, out);
+            put_byte(b'=', equals, out)
+        }
+        _ => at,
+    }
 }
 
 pub fn last_length(label: Span, reference: Option<u32>) -> usize
@@ -57,8 +62,8 @@ pub fn last_length(label: Span, reference: Option<u32>) -> usize
     ensures { LastLong label reference result }
 {
     match reference {
-        None => label.length,
-        Some(number) => decimal_length(number),
+        Some(number) if number != 0 => decimal_length(number),
+        _ => label.length,
     }
 }
 
@@ -73,9 +78,11 @@ pub fn put_last(
     requires max_label_length_bound { at + max_label_length < farthest }
     ensures { Grows (last_part labels.now label reference) at result out.old out.new }
 {
-    if let Some(number) = reference {
-        return put_decimal(number, at, out);
+    match reference {
+        Some(number) if number != 0 => put_decimal(number, at, out),
+        _ => {
+            let end = label.start + label.length;
+            put_piece(&labels[label.start..end], at, out)
+        }
     }
-    let end = label.start + label.length;
-    put_piece(&labels[label.start..end], at, out)
 }

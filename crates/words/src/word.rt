@@ -18,12 +18,12 @@ use walk::hyps::ParentHyp;
 
 #[derive(Clone, Copy, Debug, PartialEq, Eq)]
 pub struct Word {
-    // The number that names its mark.
+    // The number that names its mark. None and 0 name none.
     pub mark: Option<u32>,
     // The label of the hypothesis that it stands for, in an explicit list.
     pub hyp: Option<Span>,
     pub label: Span,
-    // The number that names the mark referred to, which stands in place of the label.
+    // The number that names the mark referred to, which stands in place of the label. None and 0 refer to none.
     pub reference: Option<u32>,
 }
 
