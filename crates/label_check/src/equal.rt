@@ -5,7 +5,7 @@ ghost use Rattle.defs.specs.Table.{label_start_in, label_length_in, label_in};
 ghost use Rattle.table.specs.Records.{StatementIn};
 
 use table::StatementNo;
-use table::same::same;
+use slices::same::same;
 use table::statements::label_of;
 
 // Statement j has this label. Lengths are compared before bytes.

@@ -3,6 +3,8 @@ ghost use Rattle.std.specs.Prelude.{[], ◌∷◌, ◌<◌};
 ghost use Rattle.defs.specs.Layout.{spaces};
 ghost use Rattle.laws.specs.Puts.{farthest, Put};
 
+use slices::copy::copy;
+
 // Each of these puts its bytes from `at` on where all of them fit, and answers where they end.
 // As it is: (d) the three differ in the one line that stores; one function lent that line as a closure would be no shorter.
 pub fn put_byte(byte: u8, at: usize, out: &mut [u8]) -> usize
@@ -37,6 +39,6 @@ pub fn put_piece(piece: &[u8], at: usize, out: &mut [u8]) -> usize
     if out.len() < end {
         return end;
     }
-    out[at..end].copy_from_slice(piece);
+    copy(&mut out[at..end], piece);
     end
 }

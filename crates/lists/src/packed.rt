@@ -6,6 +6,7 @@ ghost use Rattle.defs.specs.Outcome.{answer_one, step_list_outcome};
 use crate::ending::ended;
 use answers::Refusal;
 use packing::pack::pack;
+use slices::copy::copy;
 use table::header::read_header;
 use table_check::check;
 use walk::room::working_words;
@@ -32,6 +33,6 @@ pub fn packed_list(
     if out.len() < length {
         return ended(work, Err(Refusal::ShortOutput));
     }
-    out[..length].copy_from_slice(&work[start..end]);
+    copy(&mut out[..length], &work[start..end]);
     ended(work, Ok(length))
 }

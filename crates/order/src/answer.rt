@@ -10,6 +10,7 @@ use crate::arranged::arrange;
 use crate::room::working_sums;
 use answers::{Lengths, Refusal, wipe_both};
 use layout::Layout;
+use slices::copy::copy;
 use table_check::check;
 use walk::room::working_words;
 
@@ -34,7 +35,7 @@ fn write_both(
     }
     let at = arranged.labels;
     let end = at + listed;
-    list[..listed].copy_from_slice(&work[at..end]);
+    copy(&mut list[..listed], &work[at..end]);
     arranged.put_letters(work, letters);
     Ok(Lengths {
         first: listed,

@@ -8,7 +8,7 @@ ghost use Rattle.store.specs.Store.{holding, BuiltOk, is_entry, entry_below};
 
 use table::entries::{children_of, statement_of};
 use table::limits::ENTRY_WORDS;
-use table::same::same;
+use slices::same::same;
 use table::{EntryNo, StatementNo};
 
 #[tactic(auto, using(laws::specs::Library::pointwise_same), unfolding(crate::specs::Store::is_entry))]

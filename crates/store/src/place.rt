@@ -5,6 +5,7 @@ ghost use Rattle.store.specs.Store.{full};
 ghost use Rattle.store.specs.Places.{StoreOk, Appended, place_of, Kept, place};
 
 use crate::lookup::find_entry;
+use slices::copy::copy;
 use table::limits::{ENTRY_WORDS, MAX_CHILD_REFS, MAX_ENTRIES};
 use table::{EntryNo, StatementNo};
 
@@ -54,7 +55,7 @@ fn append(
     entries[at + 1] = kids as u32;
     entries[at + 2] = wanted.len() as u32;
     let end = kids + wanted.len();
-    children[kids..end].copy_from_slice(wanted);
+    copy(&mut children[kids..end], wanted);
     Store {
         built: at + ENTRY_WORDS,
         kids: end,

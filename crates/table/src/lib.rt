@@ -1,4 +1,4 @@
-// The table of document 01: its limits, its two kinds of number, its header, sections and records; slices compared.
+// The table of document 01: its limits, its two kinds of number, its header, sections and records.
 #![tactic(auto)]
 
 pub mod entries;
@@ -6,7 +6,6 @@ pub mod header;
 pub mod kinds;
 pub mod limits;
 pub mod numbers;
-pub mod same;
 pub mod sections;
 pub mod statements;
 

@@ -64,15 +64,15 @@ pub returns-then-out-length : goal.returns-then-out-length
 returns-then-out-length c =
     no_room _ _ _ _ _ _ (good (goal.at.returns-then-out-length c).In_ok-check) (enough (goal.at.returns-then-out-length c).Else-work-working_words) refl _ _ _ (ap answer_number c.ended.ensures.0) (ap answer_length c.ended.ensures.0) (wiped (goal.at.returns-then-out-length c).After-pack-end _ c.ended.ensures.1) (omega (arith, (packed (goal.at.returns-then-out-length c).After-pack-end (good (goal.at.returns-then-out-length c).In_ok-check)).long, c.if-out-length.true))
 
-pub slice_bounds-copy_from_slice-count : goal.slice_bounds-copy_from_slice-count
-slice_bounds-copy_from_slice-count c = (packed (goal.at.slice_bounds-copy_from_slice-count c).After-pack-end (good (goal.at.slice_bounds-copy_from_slice-count c).In_ok-check)).begins
+pub slice_bounds-copy-count : goal.slice_bounds-copy-count
+slice_bounds-copy-count c = (packed (goal.at.slice_bounds-copy-count c).After-pack-end (good (goal.at.slice_bounds-copy-count c).In_ok-check)).begins
 
-pub slice_bounds-copy_from_slice-start : goal.slice_bounds-copy_from_slice-start
-slice_bounds-copy_from_slice-start c = (packed (goal.at.slice_bounds-copy_from_slice-start c).After-pack-end (good (goal.at.slice_bounds-copy_from_slice-start c).In_ok-check)).begins
+pub slice_bounds-copy-start : goal.slice_bounds-copy-start
+slice_bounds-copy-start c = (packed (goal.at.slice_bounds-copy-start c).After-pack-end (good (goal.at.slice_bounds-copy-start c).In_ok-check)).begins
 
-pub slice_bounds-copy_from_slice-end-3 : goal.slice_bounds-copy_from_slice-end-3
-slice_bounds-copy_from_slice-end-3 c = omega (arith, (packed (goal.at.slice_bounds-copy_from_slice-end-3 c).After-pack-end (good (goal.at.slice_bounds-copy_from_slice-end-3 c).In_ok-check)).ends, enough (goal.at.slice_bounds-copy_from_slice-end-3 c).Else-work-working_words, c.pack-end.auto.work)
+pub slice_bounds-copy-end-3 : goal.slice_bounds-copy-end-3
+slice_bounds-copy-end-3 c = omega (arith, (packed (goal.at.slice_bounds-copy-end-3 c).After-pack-end (good (goal.at.slice_bounds-copy-end-3 c).In_ok-check)).ends, enough (goal.at.slice_bounds-copy-end-3 c).Else-work-working_words, c.pack-end.auto.work)
 
 pub returns : goal.returns
 returns c =
-    done _ _ _ _ _ _ (good (goal.at.returns c).In_ok-check) (enough (goal.at.returns c).Else-work-working_words) refl _ _ _ _ (ap answer_number c.ended-2.ensures.0) (ap answer_length c.ended-2.ensures.0 ∙ (packed (goal.at.returns c).After-pack-end (good (goal.at.returns c).In_ok-check)).long) (wiped (goal.at.returns c).After-pack-end _ c.ended-2.ensures.1) (copied _ _ _ _ (c.copy_from_slice.ensures.after ∙ (packed (goal.at.returns c).After-pack-end (good (goal.at.returns c).In_ok-check)).front) (packed (goal.at.returns c).After-pack-end (good (goal.at.returns c).In_ok-check)).long) (omega (arith, (packed (goal.at.returns c).After-pack-end (good (goal.at.returns c).In_ok-check)).long, c.if-out-length.false))
+    done _ _ _ _ _ _ (good (goal.at.returns c).In_ok-check) (enough (goal.at.returns c).Else-work-working_words) refl _ _ _ _ (ap answer_number c.ended-2.ensures.0) (ap answer_length c.ended-2.ensures.0 ∙ (packed (goal.at.returns c).After-pack-end (good (goal.at.returns c).In_ok-check)).long) (wiped (goal.at.returns c).After-pack-end _ c.ended-2.ensures.1) (copied _ _ _ _ (c.copy.ensures ∙ (packed (goal.at.returns c).After-pack-end (good (goal.at.returns c).In_ok-check)).front) (packed (goal.at.returns c).After-pack-end (good (goal.at.returns c).In_ok-check)).long) (omega (arith, (packed (goal.at.returns c).After-pack-end (good (goal.at.returns c).In_ok-check)).long, c.if-out-length.false))

@@ -62,7 +62,7 @@ returns c =
     both_written _ _ _ _ c.in_ok-arranged.ensures.number_is _ _ _ _ a.listed_is (measured at)
     (omega (arith, a.listed_is, c.if-list-listed.false))
     (omega (arith, measured at, ap length (unlent at), c.if-letters-length.false))
-    (copied _ _ _ _ (c.copy_from_slice.ensures.after ∙ list-there (goal.at.returns c).In_ok-arranged) a.listed_is)
+    (copied _ _ _ _ (c.copy.ensures ∙ list-there (goal.at.returns c).In_ok-arranged) a.listed_is)
     (from_front _ _ _ _ (c.put_letters.ensures.wrote _ _ _ a.says)
     (omega (arith, c.if-letters-length.false, (c.put_letters-length.ensures.wrote _ _ _ a.says).ends, (c.put_letters.ensures.wrote _ _ _ a.says).ends))
     ∙ ap (over (letters_for c.args.words.now (layout_of c.args.layout))) (unlent at))

@@ -3,7 +3,7 @@
 use mathlib.Core.Path.{◌≡◌}
 use lib.ListN.{drop}
 use lib.Pointwise.{pointwise}
-use Rattle.table.proofs.same.same.Given as goal
+use Rattle.slices.proofs.same.same.Given as goal
 
 abbrev pub invariant-loop-i : goal.invariant-loop-i
 invariant-loop-i g l = pointwise g.T.PartialEq.eq (drop l.i l.one) (drop l.i l.other) ≡ pointwise g.T.PartialEq.eq l.one l.other
