@@ -3,7 +3,8 @@ use Rattle.std.specs.Prelude.{ℕ, ◌||◌, List, ◌++◌, eqb}
 use Rattle.laws.specs.Tools.{pick}
 use Rattle.verify.specs.declared.verdict.Stage.{Stage}
 use Rattle.verify.specs.declared.verdict.Stage.TheVariants.{PackedList, PackedRead, NormalList, NormalRead, Letters, Decoded, LettersRead}
-use Rattle.verify.specs.Verdicts.{Verdict, Agree, Refused, Differ}
+use Rattle.verify.specs.declared.verdict.Verdict.{Verdict}
+use Rattle.verify.specs.declared.verdict.Verdict.TheVariants.{Agree, Refused, Differ}
 use Rattle.answers_said.specs.Bytes.{bytes}
 use Rattle.answers_said.specs.Refusals.{refusal_line}
 

@@ -1,14 +1,13 @@
 // What comparing the three ways came to.
 ghost use Rattle.std.specs.Prelude.{◌≡◌, ◌≤◌, ◌||◌, eqb};
 ghost use Rattle.laws.specs.Puts.{Grows};
-ghost use Rattle.verify.specs.Verdicts.{verdict_of};
 ghost use Rattle.answers_said.specs.Lines.{Said};
 ghost use Rattle.answers_said.specs.Verdicts.{stage_line, room_line, refused_lines, verdict_lines};
 
 use crate::lines::LINE_BYTES;
 use crate::refusals::put_refusal;
 use layout::bytes::put_piece;
-use verify::{Disagreement, Stage};
+use verify::{Stage, Verdict};
 
 // What the stage gave.
 #[tactic(auto, unfolding(crate::specs::Verdicts::stage_line, crate::specs::Bytes::bytes))]
@@ -50,7 +49,7 @@ fn is_short(number: u32) -> bool
 }
 
 // The slices lent are the program's own arrays.
-// As it is: (a) refused_said promises lines for every number, also for one that no refusal has.
+// As it is: (a) verdict_said and refused_said promise lines for every number, also for one that no refusal has.
 fn put_refused(stage: Stage, number: u32, out: &mut [u8]) -> usize
     ensures grows { Grows (refused_lines stage number) 0 result out.old out.new }
     ensures upper_bound { result ≤ 200 }
@@ -65,26 +64,27 @@ fn put_refused(stage: Stage, number: u32, out: &mut [u8]) -> usize
 }
 
 // Puts the lines of a verdict at the front where they fit, and answers how many bytes they are.
-fn put_verdict(verdict: Result<(), Disagreement>, out: &mut [u8]) -> usize
-    ensures grows { Grows (verdict_lines (verdict_of verdict)) 0 result out.old out.new }
+fn put_verdict(verdict: Verdict, out: &mut [u8]) -> usize
+    ensures grows { Grows (verdict_lines verdict) 0 result out.old out.new }
     ensures upper_bound { result ≤ 200 }
 {
     match verdict {
-        Ok(()) => put_piece(
+        Verdict::Agree => put_piece(
             b"done: normal list, packed list and letters are read back as the same entries\n",
             0,
             out,
         ),
-        Err(Disagreement::Refused(stage, refusal)) => put_refused(stage, refusal.number(), out),
-        Err(Disagreement::Differ(stage)) => {
+        Verdict::Refused(stage, number) => put_refused(stage, number, out),
+        Verdict::Differ(stage) => {
             let begun = put_piece(b"differ: ", 0, out);
             put_piece(stage_said(stage), begun, out)
         }
     }
 }
 
-pub fn verdict_said(verdict: Result<(), Disagreement>, line: &mut [u8; LINE_BYTES]) -> usize
-    ensures { Said (verdict_lines (verdict_of verdict)) result line.new }
+// A refusal is said by its number, whichever it is: the caller may have made the verdict itself.
+pub fn verdict_said(verdict: Verdict, line: &mut [u8; LINE_BYTES]) -> usize
+    ensures { Said (verdict_lines verdict) result line.new }
 {
     put_verdict(verdict, line)
 }

@@ -15,6 +15,7 @@ use answers_said::lines::LINE_BYTES;
 use answers_said::verdicts::verdict_said;
 use layout::Layout;
 use std::env::Env;
+use verify::Verdict;
 
 // The layout, if any, is the arguments from the third on.
 pub fn read_command(rt: &impl Env) -> Result<Command, Misuse> {
@@ -51,7 +52,7 @@ fn answer(
         words, labels, layout, work, sums, packed, steps, list, letters, built, kids, entries,
         children,
     );
-    verdict_said(verdict, line)
+    verdict_said(Verdict::from(verdict), line)
 }
 
 fn show(

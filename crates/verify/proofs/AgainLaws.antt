@@ -17,8 +17,8 @@ use Rattle.defs.specs.Replay.{replay_outcome}
 use Rattle.verify.specs.Gave.{gave, replay_same}
 use Rattle.verify.specs.Verified.{unless, read_again}
 use Rattle.verify.specs.declared.verdict.Stage.{Stage}
-use Rattle.verify.specs.Verdicts.{Verdict}
-use Rattle.verify.specs.Verdicts.{Agree, Refused, Differ}
+use Rattle.verify.specs.declared.verdict.Verdict.{Verdict}
+use Rattle.verify.specs.declared.verdict.Verdict.TheVariants.{Agree, Refused, Differ}
 
 -- what `!=` says of two slices
 module _ (unequal : Bool) (xs ys : List ℕ) (is : unequal ≡ not (pointwise eqb xs ys)) where

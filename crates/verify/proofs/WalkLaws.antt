@@ -15,8 +15,9 @@ use Rattle.verify.specs.Verified.{unless, agreeing, read_again, packed_gave, bui
 use Rattle.verify.specs.Came.{Held, Came}
 use Rattle.verify.proofs.AgainLaws.{again_same}
 use Rattle.verify.specs.declared.verdict.Stage.TheVariants.{PackedList, PackedRead, NormalList, NormalRead}
-use Rattle.verify.specs.Verdicts.{Verdict, told}
-use Rattle.verify.specs.Verdicts.{Agree, Refused}
+use Rattle.verify.specs.declared.verdict.Verdict.{Verdict}
+use Rattle.verify.specs.Verdicts.{told}
+use Rattle.verify.specs.declared.verdict.Verdict.TheVariants.{Agree, Refused}
 use Rattle.verify.specs.declared.walks.Kept.{Kept}
 use Rattle.std.specs.Prelude.{Result, Ok, Err}
 use Rattle.answers.specs.declared.refusals.Refusal.{Refusal}

@@ -14,8 +14,9 @@ use Rattle.verify.specs.Came.{Held, Came}
 use Rattle.verify.specs.Spelled.{Spelt, Decoding}
 use Rattle.verify.proofs.AgainLaws.{again_same}
 use Rattle.verify.specs.declared.verdict.Stage.TheVariants.{Decoded, LettersRead}
-use Rattle.verify.specs.Verdicts.{Verdict, told}
-use Rattle.verify.specs.Verdicts.{Differ}
+use Rattle.verify.specs.declared.verdict.Verdict.{Verdict}
+use Rattle.verify.specs.Verdicts.{told}
+use Rattle.verify.specs.declared.verdict.Verdict.TheVariants.{Differ}
 use Rattle.std.specs.Prelude.{Result, Ok, Err}
 use Rattle.verify.specs.declared.verdict.Disagreement.{Disagreement}
 use Rattle.verify.specs.declared.walks.Kept.{Kept}

@@ -10,8 +10,8 @@ use Rattle.verify.specs.Gave.{Gave, gave}
 use Rattle.verify.specs.Verified.{unless, agreeing, read_again, packed_gave, built_gave, packed_way, normal_way, lists_way, letters_gave, decoded_gave, spelled_way, decoded_way, letters_way, Lent, verified}
 use Rattle.verify.specs.declared.verdict.Stage.{Stage}
 use Rattle.verify.specs.declared.verdict.Stage.TheVariants.{PackedList, PackedRead, NormalList, NormalRead, Letters, Decoded, LettersRead}
-use Rattle.verify.specs.Verdicts.{Verdict}
-use Rattle.verify.specs.Verdicts.{Agree, Refused, Differ}
+use Rattle.verify.specs.declared.verdict.Verdict.{Verdict}
+use Rattle.verify.specs.declared.verdict.Verdict.TheVariants.{Agree, Refused, Differ}
 
 -- a step list was read, into these entries and children
 pub record ReadAs (w b steps built kids work entries children : List ℕ) : Type 0 where

@@ -1,7 +1,8 @@
 -- What the lists came to: an end, whatever would have come next, or what the packed list gave, kept in the slices.
 use Rattle.std.specs.Prelude.{◌≡◌, ℕ, ◌≤◌, List, length, take, Result, Ok, Err}
 use Rattle.verify.specs.Gave.{Gave}
-use Rattle.verify.specs.Verdicts.{Verdict, told}
+use Rattle.verify.specs.declared.verdict.Verdict.{Verdict}
+use Rattle.verify.specs.Verdicts.{told}
 use Rattle.verify.specs.declared.walks.Kept.{Kept}
 use Rattle.verify.specs.declared.verdict.Disagreement.{Disagreement}
 

@@ -26,7 +26,7 @@ use Rattle.verify.specs.Gave.{Gave, gave, gave_one, gave_two}
 use Rattle.verify.specs.Verified.{unless, agreeing, read_again, packed_gave, built_gave, packed_way, normal_way, lists_way, letters_gave, decoded_gave, spelled_way, decoded_way, letters_way, Lent, verified}
 use Rattle.verify.specs.declared.verdict.Stage.{Stage}
 use Rattle.verify.specs.declared.verdict.Stage.TheVariants.{NormalRead, LettersRead}
-use Rattle.verify.specs.Verdicts.{Agree}
+use Rattle.verify.specs.declared.verdict.Verdict.TheVariants.{Agree}
 
 -- the room that document 01 asks: of the writers and of the replay (twice the steps), and outputs that what is written fits
 pub record Enough (w : List ℕ) (l : Layout) (m : Lent) : Type 0 where

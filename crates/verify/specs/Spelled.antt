@@ -3,7 +3,8 @@ use Rattle.std.specs.Prelude.{◌≡◌, ℕ, List, Result, Ok, Err}
 use Rattle.defs.specs.Layout.{Layout}
 use Rattle.verify.specs.Verified.{decoded_gave, spelled_way}
 use Rattle.verify.specs.Came.{Front}
-use Rattle.verify.specs.Verdicts.{Verdict, told}
+use Rattle.verify.specs.declared.verdict.Verdict.{Verdict}
+use Rattle.verify.specs.Verdicts.{told}
 use Rattle.verify.specs.declared.verdict.Disagreement.{Disagreement}
 
 pub record Spelt (w b : List ℕ) (l : Layout) (work sums list letters steps steps' : List ℕ) (len : ℕ) : Type 0 where

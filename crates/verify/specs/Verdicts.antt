@@ -6,14 +6,10 @@ use Rattle.answers.specs.declared.refusals.Refusal.TheVariants.{Header, Statemen
 use Rattle.answers.specs.declared.refusals.Refusal.TheVariants.{Mixed, StrayEssential, LongLabel, ManySteps, ShortWork, ShortOutput, BadList, BadLetters, BadStack}
 use Rattle.answers.specs.Refused.{refusal_number}
 use Rattle.verify.specs.declared.verdict.Stage.{Stage}
+use Rattle.verify.specs.declared.verdict.Verdict.{Verdict}
+use Rattle.verify.specs.declared.verdict.Verdict.TheVariants.{Agree, Refused, Differ}
 use Rattle.verify.specs.declared.verdict.Disagreement.{Disagreement}
 use Rattle.verify.specs.declared.verdict.Disagreement.TheVariants as code
-
--- Refused: the operation of this stage gave that number of document 01. Differ: what it wrote is not what the packed list gave
-pub data Verdict : Type 0 where
-  Agree : Verdict
-  Refused : Stage → ℕ → Verdict
-  Differ : Stage → Verdict
 
 -- why they do not agree, as a verdict; and what a result says
 abbrev pub told : Disagreement → Verdict

@@ -7,8 +7,8 @@ use Rattle.roundtrip.specs.Main.{Covered}
 use Rattle.verify.specs.Verified.{Lent, lent, verified}
 use Rattle.verify.specs.Covered.{Enough, covered_agrees}
 use Rattle.verify.specs.Agreed.{Agreed, agreed}
-use Rattle.verify.specs.Verdicts.{Verdict}
-use Rattle.verify.specs.Verdicts.{Agree}
+use Rattle.verify.specs.declared.verdict.Verdict.{Verdict}
+use Rattle.verify.specs.declared.verdict.Verdict.TheVariants.{Agree}
 
 -- all slices zero, the whole of each
 unfoldable pub wiped : Lent → Lent

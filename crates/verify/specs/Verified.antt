@@ -8,8 +8,8 @@ use Rattle.defs.specs.Replay.{replay_outcome}
 use Rattle.verify.specs.Gave.{Gave, gave}
 use Rattle.verify.specs.declared.verdict.Stage.{Stage}
 use Rattle.verify.specs.declared.verdict.Stage.TheVariants.{PackedList, PackedRead, NormalList, NormalRead, Letters, Decoded, LettersRead}
-use Rattle.verify.specs.Verdicts.{Verdict}
-use Rattle.verify.specs.Verdicts.{Agree, Refused, Differ}
+use Rattle.verify.specs.declared.verdict.Verdict.{Verdict}
+use Rattle.verify.specs.declared.verdict.Verdict.TheVariants.{Agree, Refused, Differ}
 
 -- a stage that refuses ends the comparison
 unfoldable pub unless : Stage → ℕ → Verdict → Verdict

@@ -9,4 +9,4 @@ pub mod walks; // walks.rt: the packed list and the normal list
 pub mod ways; // ways.rt: the letters read, and the three ways together
 
 pub use answer::verify;
-pub use verdict::{Disagreement, Stage};
+pub use verdict::{Disagreement, Stage, Verdict};

@@ -1,6 +1,6 @@
 // What the comparison of the three ways answers.
 ghost use Rattle.std.specs.Prelude.{◌≡◌};
-ghost use Rattle.verify.specs.Verdicts.{at_stage};
+ghost use Rattle.verify.specs.Verdicts.{at_stage, verdict_of};
 
 use answers::Refusal;
 
@@ -14,6 +14,15 @@ pub enum Stage {
     Letters,
     Decoded,
     LettersRead,
+}
+
+// The verdict in numbers. Refused: the operation of this stage gave that number of document 01. Differ: what it wrote is not what the
+// packed list gave.
+#[derive(Clone, Copy, Debug, PartialEq, Eq)]
+pub enum Verdict {
+    Agree,
+    Refused(Stage, u32),
+    Differ(Stage),
 }
 
 // Why the three ways do not agree. Refused: the operation of this stage refused. Differ: what it wrote is not what the packed list gave.
@@ -30,5 +39,19 @@ pub fn at_stage<T>(stage: Stage, answer: Result<T, Refusal>) -> Result<T, Disagr
     match answer {
         Ok(given) => Ok(given),
         Err(refusal) => Err(Disagreement::Refused(stage, refusal)),
+    }
+}
+
+impl From<Result<(), Disagreement>> for Verdict {
+    ghost from_gives = { λ answer verdict. verdict ≡ verdict_of answer };
+
+    fn from(answer: Result<(), Disagreement>) -> Self {
+        match answer {
+            Ok(()) => Verdict::Agree,
+            Err(Disagreement::Refused(stage, refusal)) => {
+                Verdict::Refused(stage, refusal.number())
+            }
+            Err(Disagreement::Differ(stage)) => Verdict::Differ(stage),
+        }
     }
 }
