@@ -18,7 +18,10 @@ fn copy_above(sums: &mut [u16], width: usize, from: usize, to: usize)
     requires { (width ≤ from) × ((from ≤ to) × ((to ≤ from + width) × (to ≤ length sums.old))) }
     ensures { Written (above sums.old width) from to sums.old sums.new }
 {
-    sums.copy_within(from - width..to - width, from);
+    // As it is: (b) a loop and no `copy_within`: on lines of a few bytes, where a row is short, its call took a quarter of all the time.
+    for at in from..to {
+        sums[at] = sums[at - width];
+    }
 }
 
 // Rooms from the item's cost on: without the item, or with it and the greatest total for the room that it leaves.
