@@ -5,7 +5,6 @@ ghost use Rattle.defs.specs.Table.{label_start_in, label_length_in, label_in};
 ghost use Rattle.table.specs.Records.{StatementIn};
 
 use table::StatementNo;
-use slices::same::same;
 use table::statements::label_of;
 
 // Statement j has this label. Lengths are compared before bytes.
@@ -15,5 +14,5 @@ pub fn has_label(statements: &[u32], labels: &[u8], j: StatementNo, label: &[u8]
     requires j_in_bounds { label_start_in statements.now j.0 + label_length_in statements.now j.0 ≤ length labels.now }
     ensures { result ≡ same (label_in statements.now labels.now j.0) label.now }
 {
-    same(label_of(statements, labels, j), label)
+    label_of(statements, labels, j) == label
 }
