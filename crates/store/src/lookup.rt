@@ -20,7 +20,8 @@ fn is_entry(built: &[u32], kids: &[u32], e: EntryNo, statement: StatementNo, wan
     statement_of(built, e) == statement && same(children_of(built, kids, e), wanted)
 }
 
-// None: no entry is equal.
+// None: no entry is equal. A function of its own also in what is built, where the scan then has the registers to itself.
+#[inline(never)]
 pub fn find_entry(
     built: &[u32],
     kids: &[u32],
