@@ -6,9 +6,9 @@ ghost use Rattle.defs.specs.Replay.{lookup};
 ghost use Rattle.table.specs.Records.{EntryIn};
 ghost use Rattle.store.specs.Store.{holding, BuiltOk, is_entry, entry_below};
 
+use slices::same::same;
 use table::entries::{children_of, statement_of};
 use table::limits::ENTRY_WORDS;
-use slices::same::same;
 use table::{EntryNo, StatementNo};
 
 #[tactic(auto, using(laws::specs::Library::pointwise_same), unfolding(crate::specs::Store::is_entry))]
